@@ -39,6 +39,6 @@ module _ {A : Type 0} (p : A → Bool) (e : A) where
       let l = place-is xs in
       lowest-one q n (place p xs) (leastFrom q n 0) (record {
         high = omega (arith, l .high);
-        passes = λ g. rw h (place p xs) g at (l .passes (omega arith));
-        below = λ i g. rw h i (omega (arith, l .high)) at (l .below i g);
+        passes = λ g. (rw (h (place p xs) g) at (l .passes (omega arith)));
+        below = λ i g. (rw (h i (omega (arith, l .high))) at (l .below i g));
       }) (lowest-is q n)

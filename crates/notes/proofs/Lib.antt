@@ -1,1 +1,5 @@
 pub mod Walk
+pub mod Kept
+pub mod Named
+pub mod Added
+pub mod Found
