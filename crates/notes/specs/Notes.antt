@@ -3,8 +3,11 @@
 -- slots: the mark of each name (from 0), its owner (from 224), kinds (448), sources (544), feeds by pairs (640).
 use Prim.Native.Nat.{ℕ, _+_, _*_, _<_, _≤_}
 use mathlib.Core.Path.{_≡_}
+use mathlib.Core.Bool.{Bool, _&&_}
 use mathlib.Core.List.{List}
 use lib.ListN.{length, getD}
+use lib.Dec.{eqb}
+use Rattle.grammar.specs.Words.{same}
 use Rattle.grammar.specs.Rows.{fieldAt}
 use Rattle.grammar.specs.Draft.{Draft, Output, Input, Feed}
 use Rattle.notes.specs.Mark.{markFrom}
@@ -63,3 +66,12 @@ pub record Fit (t p s : List ℕ) (c : Counts) : Type 0 where
 pub record Stands (t p s : List ℕ) (c : Counts) (d : Draft) : Type 0 where
   pub fit : Fit t p s c
   pub is : draftOf t p s c ≡ d
+
+-- name b + i is w, of owner u
+unfoldable pub named : List ℕ → List ℕ → List ℕ → ℕ → ℕ → List ℕ → ℕ → Bool
+named t p s b u w i = eqb (getD s (224 + (b + i)) 0) u && same (nameAt t p (b + i)) w
+
+-- count names from name b on have slots, and their marks are right
+pub record Findable (t p s : List ℕ) (b count : ℕ) : Type 0 where
+  pub low : b + count ≤ 224
+  pub marked : (i : ℕ) → i < count → Marked t p s (b + i)
