@@ -3,4 +3,5 @@ pub mod Rows
 pub mod Draft
 pub mod Lines
 pub mod Reading
+pub mod Lexed
 pub mod Examples
