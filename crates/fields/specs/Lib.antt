@@ -1,0 +1,6 @@
+-- Where the fields of a line stand.
+pub mod Spans
+pub mod Rows
+pub mod Places
+pub mod Promise
+pub mod Determined
