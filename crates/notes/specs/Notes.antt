@@ -67,9 +67,13 @@ pub record Stands (t p s : List ℕ) (c : Counts) (d : Draft) : Type 0 where
   pub fit : Fit t p s c
   pub is : draftOf t p s c ≡ d
 
--- name b + i is w, of owner u
-unfoldable pub named : List ℕ → List ℕ → List ℕ → ℕ → ℕ → List ℕ → ℕ → Bool
-named t p s b u w i = eqb (getD s (224 + (b + i)) 0) u && same (nameAt t p (b + i)) w
+-- name k is w, of owner u
+unfoldable pub isNamed : List ℕ → List ℕ → List ℕ → ℕ → List ℕ → ℕ → Bool
+isNamed t p s u w k = eqb (getD s (224 + k) 0) u && same (nameAt t p k) w
+
+-- the same of the names from name b on
+abbrev pub named : List ℕ → List ℕ → List ℕ → ℕ → ℕ → List ℕ → ℕ → Bool
+named t p s b u w i = isNamed t p s u w (b + i)
 
 -- count names from name b on have slots, and their marks are right
 pub record Findable (t p s : List ℕ) (b count : ℕ) : Type 0 where

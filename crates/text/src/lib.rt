@@ -1,0 +1,2 @@
+// Reading a text table.
+mod names;
