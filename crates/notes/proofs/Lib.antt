@@ -3,3 +3,4 @@ pub mod Kept
 pub mod Named
 pub mod Added
 pub mod Found
+pub mod Slots

@@ -79,3 +79,11 @@ named t p s b u w i = isNamed t p s u w (b + i)
 pub record Findable (t p s : List ℕ) (b count : ℕ) : Type 0 where
   pub low : b + count ≤ 224
   pub marked : (i : ℕ) → i < count → Marked t p s (b + i)
+
+-- feed k is from input x to output y
+unfoldable pub isFed : List ℕ → ℕ → ℕ → ℕ → Bool
+isFed s x y k = eqb (getD s (640 + 2 * k) 0) x && eqb (getD s (641 + 2 * k) 0) y
+
+-- input x is not joined
+unfoldable pub isLoose : List ℕ → ℕ → Bool
+isLoose s x = eqb (getD s (544 + x) 0) 255

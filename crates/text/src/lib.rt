@@ -1,2 +1,3 @@
 // Reading a text table.
 mod names;
+mod draft;
