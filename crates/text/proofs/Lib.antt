@@ -1,0 +1,4 @@
+pub mod Shape
+pub mod Outcomes
+pub mod Declared
+pub mod Wired

@@ -8,29 +8,29 @@ use notes::Counts;
 use crate::names;
 
 // The unit whose name begins at place a, or the count of units.
-pub fn unit_named(text: &[u8], places: &[u16; 320], slots: &[u8; 896], counts: Counts, a: usize) -> usize
+pub fn unit_named(text: &[u8], places: &[u16; 320], slots: &[u8; 896], counts: Counts, a: u16) -> usize
     requires { ⌜ Fit (now text) (now places) (now slots) counts ⌝ }
     ensures { λ r. ⌜ r ≡ unitNamed (draftOf (now (text .entry)) (now (places .entry)) (now (slots .entry)) counts) (fieldAt (now (text .entry)) a) ⌝ }
 {
-    names::find(text, places, slots, 0, counts.units, 0, a)
+    names::find(text, places, slots, 0, counts.units, 0, a as usize)
 }
 
 // The output of unit u whose name begins at place a, or the count of outputs.
-pub fn output_named(text: &[u8], places: &[u16; 320], slots: &[u8; 896], counts: Counts, u: usize, a: usize) -> usize
+pub fn output_named(text: &[u8], places: &[u16; 320], slots: &[u8; 896], counts: Counts, u: usize, a: u16) -> usize
     requires { ⌜ Fit (now text) (now places) (now slots) counts ⌝ }
     requires { ⌜ u < 32 ⌝ }
     ensures { λ r. ⌜ r ≡ outputNamed (draftOf (now (text .entry)) (now (places .entry)) (now (slots .entry)) counts) u (fieldAt (now (text .entry)) a) ⌝ }
 {
-    names::find(text, places, slots, 32, counts.outputs, u as u8, a)
+    names::find(text, places, slots, 32, counts.outputs, u as u8, a as usize)
 }
 
 // The input of unit u whose name begins at place a, or the count of inputs.
-pub fn input_named(text: &[u8], places: &[u16; 320], slots: &[u8; 896], counts: Counts, u: usize, a: usize) -> usize
+pub fn input_named(text: &[u8], places: &[u16; 320], slots: &[u8; 896], counts: Counts, u: usize, a: u16) -> usize
     requires { ⌜ Fit (now text) (now places) (now slots) counts ⌝ }
     requires { ⌜ u < 32 ⌝ }
     ensures { λ r. ⌜ r ≡ inputNamed (draftOf (now (text .entry)) (now (places .entry)) (now (slots .entry)) counts) u (fieldAt (now (text .entry)) a) ⌝ }
 {
-    names::find(text, places, slots, 128, counts.inputs, u as u8, a)
+    names::find(text, places, slots, 128, counts.inputs, u as u8, a as usize)
 }
 
 // One unit more, whose name begins at place a.

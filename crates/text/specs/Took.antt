@@ -1,0 +1,19 @@
+-- How what the reader of a line hands back stands for the line's outcome.
+use Prim.Native.Nat.{ℕ}
+use mathlib.Core.Path.{_≡_}
+use mathlib.Core.Bool.{not, cond}
+use mathlib.Core.List.{List}
+use lib.ListN.{length}
+use lib.Dec.{eqb, ltb}
+use Rattle.grammar.specs.Lines.{Outcome, faulty}
+use Rattle.notes.specs.Notes.{Stands}
+use Rattle.text.specs.declared.Taken.{Taken}
+
+-- 24 for another number of fields, 25 where one of the first names is no name, else 0
+unfoldable pub shapeOf : List (List ℕ) → ℕ → ℕ → ℕ
+shapeOf f count names = cond (not (eqb (length f) count)) 24 (cond (ltb 0 (faulty f names)) 25 0)
+
+-- the number is the outcome's, and the notes stand for its draft
+pub record Took (t p s : List ℕ) (r : Taken) (o : Outcome) : Type 0 where
+  pub number : r .number ≡ o .number
+  pub stands : Stands t p s (r .counts) (o .draft)

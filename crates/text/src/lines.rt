@@ -1,0 +1,99 @@
+// The lines below the first, one function for each kind; the line begins at place at, which the contracts speak of.
+ghost use mathlib.Core.Path.{_≡_};
+ghost use Prim.Native.Nat.{_<_};
+ghost use Rattle.grammar.specs.Rows.{rowAt};
+ghost use Rattle.grammar.specs.Lines.{faulty as faultyOf, unitLine, outLine, inLine, feedLine, joinLine, kindOf};
+ghost use Rattle.grammar.specs.Lines.{line as lineOutcome};
+ghost use Rattle.fields.specs.Promise.{Told};
+ghost use Rattle.notes.specs.Notes.{draftOf, Fit};
+ghost use Rattle.text.specs.Took.{shapeOf, Took};
+use fields::Fields;
+use notes::Counts;
+use crate::Taken;
+use crate::draft;
+
+// The first of that many fields after the keyword that is no name, or 0.
+fn faulty(text: &[u8], at: usize, fields: Fields, names: usize) -> usize
+    requires { ⌜ Told (now text) at fields ⌝ }
+    requires { ⌜ (names < 5) × (names < fields .count) ⌝ }
+    ensures { λ r. ⌜ r ≡ faultyOf (rowAt (now (text .entry)) at) names ⌝ }
+{
+    let mut i = 0;
+    while i < names {
+        i += 1;
+        let size = fields.to[i] - fields.from[i];
+        if size == 0 {
+            return i;
+        }
+        if 16 < size {
+            return i;
+        }
+    }
+    0
+}
+
+// 24 for another number of fields, 25 where one of the first names is no name, else 0.
+fn shape(text: &[u8], at: usize, fields: Fields, count: u16, names: usize) -> u8
+    requires { ⌜ Told (now text) at fields ⌝ }
+    requires { ⌜ (names < 5) × (names < count) ⌝ }
+    ensures { λ r. ⌜ r ≡ shapeOf (rowAt (now (text .entry)) at) count names ⌝ }
+{
+    if fields.count != count {
+        return 24;
+    }
+    if faulty(text, at, fields, names) != 0 {
+        return 25;
+    }
+    0
+}
+
+// `unit`, name.
+pub fn unit_line(text: &[u8], places: &mut [u16; 320], slots: &mut [u8; 896], counts: Counts, at: usize, fields: Fields) -> Taken
+    requires { ⌜ Fit (now text) (now places) (now slots) counts ⌝ }
+    requires { ⌜ Told (now text) at fields ⌝ }
+    ensures { λ r. ⌜ Took (now (text .entry)) (now (places .exit)) (now (slots .exit)) r (unitLine (draftOf (now (text .entry)) (now (places .entry)) (now (slots .entry)) counts) (rowAt (now (text .entry)) at)) ⌝ }
+{
+    let bad = shape(text, at, fields, 2, 1);
+    if bad != 0 {
+        return Taken { number: bad, counts: counts };
+    }
+    let a = fields.from[1];
+    let u = draft::unit_named(text, places, slots, counts, a);
+    let units = counts.units;
+    if u < units {
+        return Taken { number: 26, counts: counts };
+    }
+    if 32 <= units {
+        return Taken { number: 29, counts: counts };
+    }
+    let more = draft::add_unit(text, places, slots, counts, a);
+    Taken { number: 0, counts: more }
+}
+
+// `out`, unit, name.
+pub fn out_line(text: &[u8], places: &mut [u16; 320], slots: &mut [u8; 896], counts: Counts, at: usize, fields: Fields) -> Taken
+    requires { ⌜ Fit (now text) (now places) (now slots) counts ⌝ }
+    requires { ⌜ Told (now text) at fields ⌝ }
+    ensures { λ r. ⌜ Took (now (text .entry)) (now (places .exit)) (now (slots .exit)) r (outLine (draftOf (now (text .entry)) (now (places .entry)) (now (slots .entry)) counts) (rowAt (now (text .entry)) at)) ⌝ }
+{
+    let bad = shape(text, at, fields, 3, 2);
+    if bad != 0 {
+        return Taken { number: bad, counts: counts };
+    }
+    let u = draft::unit_named(text, places, slots, counts, fields.from[1]);
+    let units = counts.units;
+    if units <= u {
+        return Taken { number: 27, counts: counts };
+    }
+    let a = fields.from[2];
+    let y = draft::output_named(text, places, slots, counts, u, a);
+    let outputs = counts.outputs;
+    if y < outputs {
+        return Taken { number: 26, counts: counts };
+    }
+    if 96 <= outputs {
+        return Taken { number: 29, counts: counts };
+    }
+    let more = draft::add_output(text, places, slots, counts, u, a);
+    Taken { number: 0, counts: more }
+}
