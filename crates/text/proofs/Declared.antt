@@ -107,3 +107,58 @@ module _ (t p s : List ℕ) (c : Counts) (fit : Fit t p s c) (a : ℕ) (l : Fiel
                 no-output t p s c y k, space t p s c _ _ 96 (outputs-are t p s c) i)
                 (ap (λ n. taken (addOutput d (record { owner = u; name = n })))
                   (field 3 2 2 out-lets (omega arith) (omega arith))))
+
+  -- ---- `in`, unit, name, `delayed` or `reactive`
+  module _ (line b : ℕ) (e : b ≡ shapeOf f 4 2) where
+    pub in-stops : (b ≡ 0 → ⊥) → Took t p s (record { number = b; counts = c }) (inLine d line f)
+    unfolding inLine
+    in-stops n = stays t p s c fit b (inLine d line f) (shape-stops f 4 2 b e d _ n)
+
+    module _ (z : b ≡ 0) (kind : ℕ) (o : kind ≡ kindOf (at 3)) where
+      abbrev in-lets : Lets f 4 2
+      in-lets = shape-lets f 4 2 b e z
+
+      in-kind : kind ≡ kindOf (word f 3)
+      in-kind = o ∙ ap kindOf (field 4 2 3 in-lets (omega arith) (omega arith))
+
+      pub in-28 : kind ≡ 2 → Took t p s (record { number = 28; counts = c }) (inLine d line f)
+      unfolding inLine refuse
+      in-28 g = stays t p s c fit 28 (inLine d line f)
+          (rw (in-lets .counted, in-lets .named, ← in-kind, eq-eqb kind 2 g))
+
+      module _ (known : kind ≡ 2 → ⊥) (u : ℕ) (q : u ≡ unitNamed d (at 1)) where
+        in-unit : u ≡ unitNamed d (word f 1)
+        in-unit = q ∙ ap (unitNamed d) (field 4 2 1 in-lets (omega arith) (omega arith))
+
+        pub in-27 : c .units ≤ u → Took t p s (record { number = 27; counts = c }) (inLine d line f)
+        unfolding inLine refuse
+        in-27 g = stays t p s c fit 27 (inLine d line f)
+            (rw (in-lets .counted, in-lets .named, ← in-kind, ne-eqb kind 2 known, ← in-unit, no-unit t p s c u g))
+
+        module _ (g : u < c .units) (x : ℕ) (r : x ≡ inputNamed d u (at 2)) where
+          in-name : x ≡ inputNamed d u (word f 2)
+          in-name = r ∙ ap (inputNamed d u) (field 4 2 2 in-lets (omega arith) (omega arith))
+
+          pub in-26 : x < c .inputs → Took t p s (record { number = 26; counts = c }) (inLine d line f)
+          unfolding inLine refuse
+          in-26 k = stays t p s c fit 26 (inLine d line f)
+              (rw (in-lets .counted, in-lets .named, ← in-kind, ne-eqb kind 2 known, ← in-unit, is-unit t p s c u g,
+                ← in-name, is-input t p s c x k))
+
+          module _ (k : c .inputs ≤ x) where
+            pub in-29 : 96 ≤ c .inputs → Took t p s (record { number = 29; counts = c }) (inLine d line f)
+            unfolding inLine refuse
+            in-29 i = stays t p s c fit 29 (inLine d line f)
+                (rw (in-lets .counted, in-lets .named, ← in-kind, ne-eqb kind 2 known, ← in-unit, is-unit t p s c u g,
+                  ← in-name, no-input t p s c x k, full t p s c _ _ 96 (inputs-are t p s c) i))
+
+            abbrev input : List ℕ → Input
+            input n = record { owner = u; name = n; kind = kind; source = unjoined; line = line }
+
+            pub in-taken : c .inputs < 96 → (v w : List ℕ) (m : Counts) → Stands t v w m (addInput d (input (at 2)))
+                → Took t v w (record { number = 0; counts = m }) (inLine d line f)
+            unfolding inLine refuse
+            in-taken i v w m j = moves t v w m (addInput d (input (at 2))) (inLine d line f) j
+                (rw (in-lets .counted, in-lets .named, ← in-kind, ne-eqb kind 2 known, ← in-unit, is-unit t p s c u g,
+                  ← in-name, no-input t p s c x k, space t p s c _ _ 96 (inputs-are t p s c) i)
+                  (ap (λ n. taken (addInput d (input n))) (field 4 2 2 in-lets (omega arith) (omega arith))))

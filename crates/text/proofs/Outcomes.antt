@@ -4,11 +4,15 @@ use mathlib.Core.Path.{_≡_, ap, sym, _∙_}
 use mathlib.Core.Bool.{Bool, true, false}
 use mathlib.Core.List.{List}
 use native.Mathlib.Omega.{arith}
-use lib.ListN.{length}
+use lib.ListN.{length, getD}
 use lib.Dec.{leb}
 use borrow.Author.Tests.{lt-ltb, le-ltb, le-leb, lt-leb}
 use Rattle.grammar.specs.Draft.{Draft, isUnit, isOutput, isInput, isFeed}
 use Rattle.grammar.specs.Lines.{Outcome, refused, taken}
+use Rattle.grammar.specs.Rows.{fieldAt, stretch}
+use Rattle.grammar.specs.Lexed.{stretch-field}
+use Rattle.fields.specs.declared.Fields.{Fields}
+use Rattle.fields.specs.Promise.{Told}
 use Rattle.notes.specs.declared.Counts.{Counts}
 use Rattle.notes.specs.Notes.{draftOf, Fit, Stands}
 use Rattle.notes.proofs.Slots.{units-are, outputs-are, inputs-are, feeds-are}
@@ -75,3 +79,9 @@ module _ (t p s : List ℕ) (c : Counts) where
 
   pub space : (n k m : ℕ) → n ≡ k → k < m → leb m n ≡ false
   space n k m e h = lt-leb m n (omega arith)
+
+-- a field as the stretch between its ends
+pub word-here : (t : List ℕ) (a : ℕ) (l : Fields) → Told t a l → (i b e : ℕ) → i < 5 → i < l .count
+    → b ≡ getD (l .from) i 0 → e ≡ getD (l .to) i 0 → stretch t b e ≡ fieldAt t (getD (l .from) i 0)
+word-here t a l told i b e h g p q =
+    rw (p, q, told .ends i h g) (stretch-field t (getD (l .from) i 0))
