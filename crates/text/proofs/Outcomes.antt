@@ -9,7 +9,7 @@ use lib.Dec.{leb}
 use borrow.Author.Tests.{lt-ltb, le-ltb, le-leb, lt-leb}
 use Rattle.grammar.specs.Draft.{Draft, isUnit, isOutput, isInput, isFeed}
 use Rattle.grammar.specs.Lines.{Outcome, refused, taken}
-use Rattle.grammar.specs.Rows.{fieldAt, stretch}
+use Rattle.grammar.specs.Rows.{fieldAt, wordEnd, stretch}
 use Rattle.grammar.specs.Lexed.{stretch-field}
 use Rattle.fields.specs.declared.Fields.{Fields}
 use Rattle.fields.specs.Promise.{Told}
@@ -85,3 +85,9 @@ pub word-here : (t : List ℕ) (a : ℕ) (l : Fields) → Told t a l → (i b e 
     → b ≡ getD (l .from) i 0 → e ≡ getD (l .to) i 0 → stretch t b e ≡ fieldAt t (getD (l .from) i 0)
 word-here t a l told i b e h g p q =
     rw (p, q, told .ends i h g) (stretch-field t (getD (l .from) i 0))
+
+-- the ends of a field are in the text
+pub word-ends : (t : List ℕ) (a : ℕ) (l : Fields) → Told t a l → (i b e : ℕ) → i < 5 → i < l .count
+    → b ≡ getD (l .from) i 0 → e ≡ getD (l .to) i 0 → (b ≤ e) × (e ≤ length t)
+unfolding wordEnd
+word-ends t a l told i b e h g p q = (omega (arith, told .ends i h g), omega (arith, told .within i h g))

@@ -99,3 +99,9 @@ module _ (f : List (List ℕ)) (count names b : ℕ) (e : b ≡ shapeOf f count 
       go true y q = rw q
       go false true q = rw q
       go false false q = absurd (n q)
+
+-- a line that passes 24 has its fields
+pub has-field : (t : List ℕ) (a : ℕ) (from to : List ℕ) (k next : ℕ) → Lexed t a from to k next → (count names b i : ℕ)
+    → b ≡ shapeOf (rowAt t a) count names → b ≡ 0 → i < count → i < k
+has-field t a from to k next l count names b i e z h =
+    omega (arith, l .count-is, shape-lets (rowAt t a) count names b e z .long)
