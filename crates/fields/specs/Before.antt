@@ -1,19 +1,23 @@
 -- The fields of a line told one after the other: what holds of those before a place.
-use Prim.Native.Nat.{ℕ, suc, _+_, _<_, _≤_}
-use mathlib.Core.Path.{_≡_, refl, ap, sym, _∙_, subst}
+use Prim.Native.Nat.{ℕ, _+_, _<_, _≤_}
+use mathlib.Core.Path.{_≡_, refl, ap, sym, _∙_}
 use mathlib.Core.List.{List, [], _∷_}
-use native.Mathlib.Decide.{decLt, ℕ-discrete}
+use native.Mathlib.Decide.{decLt}
 use native.Mathlib.Omega.{arith}
-use lib.ListN.{length, getD, drop, set, replicate, length-set}
+use lib.ListN.{length, getD, drop, length-set}
 use lib.Seq.{drop-drop, getD-drop, getD-set-same, getD-set-other}
-use borrow.Author.Tests.{le-leb, lt-leb, le-ltb}
+use borrow.Author.Tests.{le-leb, lt-leb}
 use Rattle.grammar.specs.Words.{lf}
 use Rattle.grammar.specs.Rows.{rows, word, rowAt, fieldAt, wordEnd}
 use Rattle.grammar.specs.Lexed.{Lexed}
 use Rattle.fields.specs.declared.Fields.{Fields}
-use Rattle.fields.specs.Spans.{noFields, keep, oneMore, spans, fieldsAt}
-use Rattle.fields.specs.Places.{row-runs, row-ends, row-parts, row-lost, rows-behind, line-ends, end-behind}
+use Rattle.fields.specs.Spans.{noFields, keep, oneMore}
+use Rattle.fields.specs.Places.{row-ends, row-parts, rows-behind, line-ends, end-behind}
 use Rattle.fields.specs.Rows.{first-row}
+
+-- the promise, of a value of `Fields`
+abbrev pub Told : List ℕ → ℕ → Fields → Type 0
+Told t a l = Lexed t a (l .from) (l .to) (l .count) (l .next)
 
 -- ---- one field more
 

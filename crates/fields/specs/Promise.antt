@@ -1,5 +1,17 @@
 -- What `fields_at` tells of a line: each of its first five fields begins and ends where it says.
--- ---- all the fields of a line
+use Prim.Native.Nat.{ℕ, _+_, _<_, _≤_}
+use mathlib.Core.Path.{_≡_, refl, ap, sym, _∙_, subst}
+use mathlib.Core.List.{List, [], _∷_}
+use native.Mathlib.Decide.{decLt, ℕ-discrete}
+use native.Mathlib.Omega.{arith}
+use lib.ListN.{length, getD, drop}
+use borrow.Author.Tests.{le-ltb}
+use Rattle.grammar.specs.Words.{lf}
+use Rattle.grammar.specs.Rows.{rowAt, fieldAt, wordEnd}
+use Rattle.fields.specs.declared.Fields.{Fields}
+use Rattle.fields.specs.Spans.{noFields, oneMore, spans, fieldsAt}
+use Rattle.fields.specs.Places.{row-runs, row-ends, row-parts, row-lost}
+use Rattle.fields.specs.Before.{Told, Before, before-none, told-last, before-more}
 
 spans-one :
     (t : List ℕ) (at : ℕ) (l : Fields) (fs : List (List ℕ)) →
