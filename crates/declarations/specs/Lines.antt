@@ -19,12 +19,20 @@ unfoldable pub linesOf : List ℕ → List (List (List ℕ)) → List (List (Lis
 linesOf w [] = []
 linesOf w (f ∷ fs) = cond (opens w f) (f ∷ linesOf w fs) (linesOf w fs)
 
+-- the lines that are told: a text over 65,535 bytes has none
+unfoldable pub told : List ℕ → List (List (List ℕ))
+told t = cond (ltb 65535 (length t)) [] (rows t)
+
+-- the first n lines of the text that open with w
+unfoldable pub declared : List ℕ → ℕ → List ℕ → List (List (List ℕ))
+declared w n t = take n (linesOf w (told t))
+
 -- where they begin, the first of all lines at place a
 unfoldable pub beginsOf : List ℕ → ℕ → List (List (List ℕ)) → List ℕ
 beginsOf w a [] = []
 beginsOf w a (f ∷ fs) = cond (opens w f) (a ∷ beginsOf w (a + span f) fs) (beginsOf w (a + span f) fs)
 
--- where the lines of the text from place a on begin that open with w; a text over 65,535 bytes has none
+-- where the lines of the text from place a on begin that open with w
 unfoldable pub beginsFrom : List ℕ → List ℕ → ℕ → List ℕ
 beginsFrom w t a = cond (ltb 65535 (length t)) [] (beginsOf w a (rows (drop a t)))
 

@@ -3,15 +3,17 @@ use Prim.Native.Nat.{ℕ, zero, suc, _+_, _<_, _≤_}
 use mathlib.Core.Path.{_≡_, refl, ap, sym, _∙_, subst}
 use mathlib.Core.Bool.{Bool, true, false, cond}
 use mathlib.Core.List.{List, [], _∷_}
+use native.Mathlib.Decide.{decLe}
 use native.Mathlib.Omega.{arith}
-use lib.ListN.{length, getD, drop, drop-of-length-le}
-use borrow.Author.Tests.{le-ltb}
+use lib.Seq.{getD-take}
+use lib.ListN.{length, getD, take, drop, drop-of-length-le, length-take}
+use borrow.Author.Tests.{le-ltb, lt-ltb}
 use Rattle.grammar.specs.Rows.{rows, rowAt}
 use Rattle.fields.specs.Spans.{span, fieldsAt}
 use Rattle.fields.specs.Promise.{fields-told}
 use Rattle.fields.specs.Parts.{next-line}
 use Rattle.fields.specs.Places.{rows-none}
-use Rattle.declarations.specs.Lines.{opens, linesOf, beginsOf, beginsFrom}
+use Rattle.declarations.specs.Lines.{opens, linesOf, told, declared, beginsOf, beginsFrom}
 
 module _ (w t : List ℕ) (d : ℕ) (small : length t ≤ 65535) (past : length t ≤ d) where
   no-row : rowAt t d ≡ []
@@ -55,7 +57,58 @@ module _ (w t : List ℕ) (d : ℕ) (small : length t ≤ 65535) (past : length 
       go true (suc j) same ih = ih j
       go false k same ih = same
 
-  -- the line that begins at the k-th noted place is the k-th line that opens with w; past the last there is none
-  pub line-stands : (k : ℕ) → rowAt t (getD (beginsFrom w t 0) k d) ≡ getD (linesOf w (rows t)) k []
-  unfolding beginsFrom
+  -- the line at the k-th place is the k-th line that opens with w; past the last there is none
+  line-stands : (k : ℕ) → rowAt t (getD (beginsFrom w t 0) k d) ≡ getD (linesOf w (told t)) k []
+  unfolding beginsFrom told
   line-stands k = rw (le-ltb 65535 (length t) small) (stands (rows t) 0 k refl)
+
+many :
+    (w : List ℕ) (fs : List (List (List ℕ))) (a : ℕ) → length (beginsOf w a fs) ≡ length (linesOf w fs)
+unfolding beginsOf linesOf
+many w [] a = refl
+many w (f ∷ fs) a = go (opens w f) (many w fs (a + span f))
+  where
+    go :
+        (b : Bool) → length (beginsOf w (a + span f) fs) ≡ length (linesOf w fs) →
+        length (cond b (a ∷ beginsOf w (a + span f) fs) (beginsOf w (a + span f) fs))
+        ≡ length (cond b (f ∷ linesOf w fs) (linesOf w fs))
+    go true ih = ap suc ih
+    go false ih = ih
+
+begins-many : (w t : List ℕ) → length (beginsFrom w t 0) ≡ length (linesOf w (told t))
+unfolding beginsFrom told linesOf
+begins-many w t = elim (decLe (length t) 65535) [
+  | yes h ↦ rw (le-ltb 65535 (length t) h) (many w (rows t) 0)
+  | no h ↦ rw (lt-ltb 65535 (length t) (omega arith))
+]
+
+any-default : (xs : List ℕ) (k a b : ℕ) → k < length xs → getD xs k a ≡ getD xs k b
+any-default [] k a b h = absurd (omega arith)
+any-default (x ∷ xs) zero a b h = refl
+any-default (x ∷ xs) (suc k) a b h = any-default xs k a b (omega arith)
+
+-- ---- the first n places and the first n lines
+module _ (w : List ℕ) (n : ℕ) (t : List ℕ) where
+  pub declared-many : length (take n (beginsFrom w t 0)) ≡ length (declared w n t)
+  unfolding declared
+  declared-many = rw (length-take, length-take, begins-many w t)
+
+  module _ (k : ℕ) (h : k < length (take n (beginsFrom w t 0))) where
+    within : (k < n) × (k < length (beginsFrom w t 0))
+    within = (omega (arith, length-take n (beginsFrom w t 0)), omega (arith, length-take n (beginsFrom w t 0)))
+
+    pub declared-small : length t ≤ 65535
+    unfolding beginsFrom
+    declared-small = elim (decLe (length t) 65535) [
+      | yes s ↦ s
+      | no s ↦
+          let z : length (beginsFrom w t 0) ≡ 0 = rw (lt-ltb 65535 (length t) (omega arith)) in
+          absurd (omega (arith, within .1))
+    ]
+
+    pub declared-row : rowAt t (getD (take n (beginsFrom w t 0)) k 0) ≡ getD (declared w n t) k []
+    unfolding declared
+    declared-row =
+        ap (rowAt t) (getD-take n (beginsFrom w t 0) k 0 (within .0) ∙ any-default (beginsFrom w t 0) k 0 (length t) (within .1))
+        ∙ line-stands w t (length t) declared-small (omega arith) k
+        ∙ sym (getD-take n (linesOf w (told t)) k [] (within .0))

@@ -1,10 +1,10 @@
 -- Each of a line's first five fields as a part of the text, the empty part where the line has no such field.
-use Prim.Native.Nat.{ℕ, zero, suc, _+_, _<_, _≤_}
+use Prim.Native.Nat.{ℕ, _+_, _<_, _≤_}
 use mathlib.Core.Path.{_≡_, refl, ap, sym, _∙_}
 use mathlib.Core.List.{List, [], _∷_}
 use native.Mathlib.Decide.{decLt}
 use native.Mathlib.Omega.{arith}
-use lib.ListN.{length, getD, getD-replicate}
+use lib.ListN.{length, getD, getD-replicate, List·getD-eq-default}
 use lib.Seq.{getD-set-other}
 use borrow.Author.Tests.{le-leb, lt-leb, le-ltb}
 use Rattle.grammar.specs.Rows.{rowAt, word, stretch, wordEnd}
@@ -27,11 +27,6 @@ keep-far xs n v i g = elim (decLt n 5) [
   | yes h ↦ rw (lt-leb 5 n h) (getD-set-other xs n i v 0 (λ p. absurd (omega arith)))
   | no h ↦ rw (le-leb 5 n (omega arith))
 ]
-
-getD-past : (fs : List (List ℕ)) (i : ℕ) → length fs ≤ i → getD fs i [] ≡ []
-getD-past [] i h = refl
-getD-past (f ∷ fs) zero h = absurd (omega arith)
-getD-past (f ∷ fs) (suc i) h = getD-past fs i (omega arith)
 
 -- what stands behind the last field is as it was
 spans-far :
@@ -71,7 +66,7 @@ module _ (t : List ℕ) (a : ℕ) (small : length t ≤ 65535) where
         let far = spans-far a (rowAt t a) noFields i (omega arith) in
         let f : getD (fieldsAt t a .from) i 0 ≡ 0 = rw whole (far .0 ∙ getD-replicate 5 i 0 0 five) in
         let e : getD (fieldsAt t a .to) i 0 ≡ 0 = rw whole (far .1 ∙ getD-replicate 5 i 0 0 five) in
-        record { order = omega (arith, f, e); within = omega (arith, e); bytes = rw (f, e) (sym (getD-past (rowAt t a) i h)) }
+        record { order = omega (arith, f, e); within = omega (arith, e); bytes = rw (f, e) (sym (List·getD-eq-default (rowAt t a) [] h)) }
 
     -- what `fields_at` tells of each of the first five fields
     pub field-part : Part t a i (fieldsAt t a)
