@@ -2,5 +2,7 @@
 pub mod Spans
 pub mod Rows
 pub mod Places
+pub mod Before
 pub mod Promise
+pub mod Parts
 pub mod Determined

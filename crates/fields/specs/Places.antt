@@ -87,3 +87,12 @@ module _ (t : List ℕ) (a : ℕ) where
   row-some h e =
       let n : a + (length t - 1 - a) ≡ length t - 1 = omega arith in
       lf-some (drop a t) (length t - 1 - a) (rw length-drop (omega arith)) (rw (getD-drop a t, n) e)
+
+-- where the line has no field, no line is left
+pub rows-none : (t : List ℕ) (a : ℕ) → rowAt t a ≡ [] → rows (drop a t) ≡ []
+unfolding rowAt
+rows-none t a e = go (some-field (drop a t))
+  where
+    go : Some (drop a t) → rows (drop a t) ≡ []
+    go (inl n) = n
+    go (inr s) = absurd (omega (arith, ap length e))

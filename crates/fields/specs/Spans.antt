@@ -30,6 +30,11 @@ unfoldable pub spans : ℕ → List (List ℕ) → Fields → Fields
 spans a [] l = l
 spans a (f ∷ fs) l = spans (a + length f + 1) fs (oneMore l a (a + length f))
 
+-- how many bytes a line takes, with the byte that ends each field
+unfoldable pub span : List (List ℕ) → ℕ
+span [] = 0
+span (f ∷ fs) = length f + 1 + span fs
+
 -- the fields of the line that begins at place a; none where no ended line begins there, or the text is too long
 unfoldable pub fieldsAt : List ℕ → ℕ → Fields
 fieldsAt t a = cond (ltb 65535 (length t)) noFields (spans a (rowAt t a) noFields)

@@ -15,13 +15,13 @@ take-none zero = refl
 take-none (suc n) = refl
 
 pub part-none : (t : List ℕ) (a n : ℕ) → length t ≤ a
-  → take (length t - length t) (drop (length t) t) ≡ part t a n
+    → take (length t - length t) (drop (length t) t) ≡ part t a n
 part-none t a n h =
     let e : length t - length t ≡ 0 = omega arith in
     rw (e, drop-of-length-le t h) (sym (take-none n))
 
 pub part-rest : (t : List ℕ) (a n : ℕ) → length t - a ≤ n
-  → take (length t - a) (drop a t) ≡ part t a n
+    → take (length t - a) (drop a t) ≡ part t a n
 part-rest t a n h =
     take-all (length t - a) (drop a t) (rw (length-drop a t) (omega arith))
     ∙ sym (take-all n (drop a t) (rw (length-drop a t) h))

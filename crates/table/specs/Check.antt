@@ -8,8 +8,20 @@ use Rattle.search.specs.Every.{every, some}
 use Rattle.table.specs.declared.Answer.{Answer}
 use Rattle.table.specs.Shape.{total}
 use Rattle.table.specs.Packed.{
-  units, outputs, inputs, feeds, outputOwners, inputOwners, kinds, sources, pairs, pairInput, pairOutput,
-  asked, shapeOf }
+  units,
+  outputs,
+  inputs,
+  feeds,
+  outputOwners,
+  inputOwners,
+  kinds,
+  sources,
+  pairs,
+  pairInput,
+  pairOutput,
+  asked,
+  shapeOf,
+}
 
 -- the number where the test fails, else what the later checks give
 unfoldable pub orElse : Bool → ℕ → ℕ → ℕ

@@ -63,4 +63,5 @@ shapeOf t = record {
   kind = λ x. getD (kinds t) x 0;
   source = λ x. getD (sources t) x 0;
   feedInput = pairInput (pairs t);
-  feedOutput = pairOutput (pairs t) }
+  feedOutput = pairOutput (pairs t);
+}

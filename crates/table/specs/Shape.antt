@@ -27,6 +27,6 @@ pub record Wired (s : Shape) : Type 0 where
   pub feed-input : (k : ℕ) → k < s .feeds → s .feedInput k < s .inputs
   pub feed-output : (k : ℕ) → k < s .feeds → s .feedOutput k < s .outputs
   pub feed-unit : (k : ℕ) → k < s .feeds
-    → s .inputOwner (s .feedInput k) ≡ s .outputOwner (s .feedOutput k)
+      → s .inputOwner (s .feedInput k) ≡ s .outputOwner (s .feedOutput k)
   pub feed-once : (j k : ℕ) → j < k → k < s .feeds
-    → s .feedInput j ≡ s .feedInput k → s .feedOutput j ≡ s .feedOutput k → ⊥
+      → s .feedInput j ≡ s .feedInput k → s .feedOutput j ≡ s .feedOutput k → ⊥

@@ -3,7 +3,16 @@ ghost use mathlib.Core.Path.{_≡_};
 ghost use Prim.Native.Nat.{_<_};
 ghost use lib.ListN.{getD};
 ghost use Rattle.table.specs.Packed.{
-    units, outputs, inputs, feeds, part, outputOwners, inputOwners, kinds, sources, pairs
+  units,
+  outputs,
+  inputs,
+  feeds,
+  part,
+  outputOwners,
+  inputOwners,
+  kinds,
+  sources,
+  pairs,
 };
 
 // The byte at a place, 0 past the end.
@@ -98,5 +107,9 @@ pub fn input_sources(table: &[u8]) -> &[u8]
 pub fn feed_pairs(table: &[u8]) -> &[u8]
     ensures { λ r. ⌜ now r ≡ pairs (now (table .entry)) ⌝ }
 {
-    stretch(table, 4 + output_count(table) + 3 * input_count(table), 2 * feed_count(table))
+    stretch(
+        table,
+        4 + output_count(table) + 3 * input_count(table),
+        2 * feed_count(table),
+    )
 }

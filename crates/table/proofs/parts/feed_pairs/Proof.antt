@@ -1,48 +1,33 @@
 use borrow.Author.Needs.{needs}
 use Rattle.table.proofs.parts.feed_pairs.Statement.{statement}
 use Rattle.table.proofs.parts.feed_pairs.Tie as tie
-use Rattle.table.proofs.parts.feed_pairs.Reads as reads
-use Rattle.table.proofs.parts.feed_pairs.Lts as lts
-use Rattle.table.proofs.parts.feed_count.Reads as feed-count-reads
-use Rattle.table.proofs.parts.input_count.Reads as input-count-reads
-use Rattle.table.proofs.parts.output_count.Reads as output-count-reads
-use Rattle.table.proofs.parts.stretch.Reads as stretch-reads
 use mathlib.Core.Path.{_∙_}
 use Rattle.table.specs.Packed.{pairs}
 
--- src/parts.rt:101:24
 output-count-requires : tie.Need-output-count-requires
 output-count-requires c κs = search needs
 
--- src/parts.rt:101:20
 add-stretch : tie.Need-add-stretch
 add-stretch c = search needs
 
--- src/parts.rt:101:50
 input-count-requires : tie.Need-input-count-requires
 input-count-requires c κs = search needs
 
--- src/parts.rt:101:46
 mul-stretch : tie.Need-mul-stretch
 mul-stretch c = search needs
 
--- src/parts.rt:101:20
 add-stretch-2 : tie.Need-add-stretch-2
 add-stretch-2 c = search needs
 
--- src/parts.rt:101:74
 feed-count-requires : tie.Need-feed-count-requires
 feed-count-requires c κs = search needs
 
--- src/parts.rt:101:70
 mul-stretch-2 : tie.Need-mul-stretch-2
 mul-stretch-2 c = search needs
 
--- src/parts.rt:101:5
 stretch-requires : tie.Need-stretch-requires
 stretch-requires c κs = search needs
 
--- src/parts.rt:98:1
 returns : tie.Need-returns
 unfolding pairs
 returns c = c .stretch .ensures ∙ rw (c .before .before .before .output-count .ensures .0, c .before .before .input-count .ensures .0, c .before .feed-count .ensures .0)

@@ -1,63 +1,47 @@
 use borrow.Author.Needs.{needs}
 use Rattle.table.proofs.parts.stretch.Statement.{statement}
 use Rattle.table.proofs.parts.stretch.Tie as tie
-use Rattle.table.proofs.parts.stretch.Reads as reads
-use Rattle.table.proofs.parts.stretch.Lts as lts
 use Rattle.table.proofs.Laws.{part-none, part-rest, part-whole}
 
--- src/parts.rt:26:16
 sub-result : tie.Need-sub-result
 sub-result c = search needs
 
--- src/parts.rt:26:16
 part-result-start : tie.Need-part-result-start
 part-result-start c = search needs
 
--- src/parts.rt:26:16
 part-result-end : tie.Need-part-result-end
 part-result-end c = search needs
 
--- src/parts.rt:26:9
 returns : tie.Need-returns
 returns c = part-none (c .before .before .args .bytes .now) (c .before .before .args .from) (c .before .before .args .count) (c .before .if1 .taken)
 
--- src/parts.rt:28:8
 sub-if2 : tie.Need-sub-if2
 sub-if2 c = search needs
 
--- src/parts.rt:29:16
 sub-result-2 : tie.Need-sub-result-2
 sub-result-2 c = search needs
 
--- src/parts.rt:29:16
 part-result-start-2 : tie.Need-part-result-start-2
 part-result-start-2 c = search needs
 
--- src/parts.rt:29:16
 part-result-end-2 : tie.Need-part-result-end-2
 part-result-end-2 c = search needs
 
--- src/parts.rt:29:9
 returns-2 : tie.Need-returns-2
 returns-2 c = part-rest (c .before .before .before .args .bytes .now) (c .before .before .before .args .from) (c .before .before .before .args .count) (c .before .if2 .taken)
 
--- src/parts.rt:31:14
 add-to : tie.Need-add-to
 add-to c = search needs
 
--- src/parts.rt:32:5
 sub-result-3 : tie.Need-sub-result-3
 sub-result-3 c = search needs
 
--- src/parts.rt:32:5
 part-result-start-3 : tie.Need-part-result-start-3
 part-result-start-3 c = search needs
 
--- src/parts.rt:32:5
 part-result-end-3 : tie.Need-part-result-end-3
 part-result-end-3 c = search needs
 
--- src/parts.rt:21:1
 returns-3 : tie.Need-returns-3
 returns-3 c = part-whole (c .before .before .before .args .bytes .now) (c .before .before .before .args .from) (c .before .before .before .args .count)
 

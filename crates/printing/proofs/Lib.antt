@@ -1,0 +1,2 @@
+-- Laws of the printed lines.
+mod Fielded

@@ -1,0 +1,5 @@
+-- What the lister prints.
+pub mod Printed
+pub mod Entries
+pub mod Listed
+pub mod Determined

@@ -1,0 +1,2 @@
+// What the lister prints, written into a lent buffer.
+mod line;
