@@ -2,3 +2,4 @@ pub mod Shape
 pub mod Outcomes
 pub mod Declared
 pub mod Wired
+pub mod Keywords

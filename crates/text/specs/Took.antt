@@ -5,6 +5,7 @@ use mathlib.Core.Bool.{not, cond}
 use mathlib.Core.List.{List}
 use lib.ListN.{length}
 use lib.Dec.{eqb, ltb}
+use Rattle.grammar.specs.Words.{same, unit, out, inp, feed, join}
 use Rattle.grammar.specs.Lines.{Outcome, faulty}
 use Rattle.notes.specs.Notes.{Stands}
 use Rattle.text.specs.declared.Taken.{Taken}
@@ -12,6 +13,15 @@ use Rattle.text.specs.declared.Taken.{Taken}
 -- 24 for another number of fields, 25 where one of the first names is no name, else 0
 unfoldable pub shapeOf : List (List ℕ) → ℕ → ℕ → ℕ
 shapeOf f count names = cond (not (eqb (length f) count)) 24 (cond (ltb 0 (faulty f names)) 25 0)
+
+-- 1 `unit`, 2 `out`, 3 `in`, 4 `feed`, 5 `join`, 0 another word
+unfoldable pub keywordOf : List ℕ → ℕ
+keywordOf w =
+    cond (same w unit) 1
+    (cond (same w out) 2
+    (cond (same w inp) 3
+    (cond (same w feed) 4
+    (cond (same w join) 5 0))))
 
 -- the number is the outcome's, and the notes stand for its draft
 pub record Took (t p s : List ℕ) (r : Taken) (o : Outcome) : Type 0 where

@@ -6,7 +6,7 @@ ghost use Rattle.grammar.specs.Lines.{faulty as faultyOf, unitLine, outLine, in
 ghost use Rattle.grammar.specs.Lines.{line as lineOutcome};
 ghost use Rattle.fields.specs.Promise.{Told};
 ghost use Rattle.notes.specs.Notes.{draftOf, Fit};
-ghost use Rattle.text.specs.Took.{shapeOf, Took};
+ghost use Rattle.text.specs.Took.{shapeOf, keywordOf, Took};
 use fields::Fields;
 use notes::Counts;
 use crate::Taken;
@@ -218,4 +218,46 @@ pub fn join_line(text: &[u8], places: &mut [u16; 320], slots: &mut [u8; 896], co
     }
     draft::add_join(text, places, slots, counts, x, y);
     Taken { number: 0, counts: counts }
+}
+
+// 1 `unit`, 2 `out`, 3 `in`, 4 `feed`, 5 `join`, 0 another word.
+fn keyword_of(word: &[u8]) -> u8
+    ensures { λ r. ⌜ r ≡ keywordOf (now (word .entry)) ⌝ }
+{
+    if fields::same(word, b"unit") {
+        return 1;
+    }
+    if fields::same(word, b"out") {
+        return 2;
+    }
+    if fields::same(word, b"in") {
+        return 3;
+    }
+    if fields::same(word, b"feed") {
+        return 4;
+    }
+    if fields::same(word, b"join") {
+        return 5;
+    }
+    0
+}
+
+// The line with that number, by its keyword.
+pub fn line(text: &[u8], places: &mut [u16; 320], slots: &mut [u8; 896], counts: Counts, at: usize, fields: Fields, line: usize) -> Taken
+    requires { ⌜ Fit (now text) (now places) (now slots) counts ⌝ }
+    requires { ⌜ Told (now text) at fields ⌝ }
+    requires { ⌜ line < 65536 ⌝ }
+    ensures { λ r. ⌜ Took (now (text .entry)) (now (places .exit)) (now (slots .exit)) r (lineOutcome (draftOf (now (text .entry)) (now (places .entry)) (now (slots .entry)) counts) line (rowAt (now (text .entry)) at)) ⌝ }
+{
+    let b = names::wide(fields.from[0]);
+    let e = names::wide(fields.to[0]);
+    let keyword = keyword_of(&text[b..e]);
+    match keyword {
+        1 => unit_line(text, places, slots, counts, at, fields),
+        2 => out_line(text, places, slots, counts, at, fields),
+        3 => in_line(text, places, slots, counts, at, fields, line),
+        4 => feed_line(text, places, slots, counts, at, fields),
+        5 => join_line(text, places, slots, counts, at, fields),
+        _ => Taken { number: 24, counts: counts },
+    }
 }
