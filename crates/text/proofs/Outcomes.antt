@@ -9,15 +9,14 @@ use lib.Dec.{leb}
 use borrow.Author.Tests.{lt-ltb, le-ltb, le-leb, lt-leb}
 use Rattle.grammar.specs.Draft.{Draft, isUnit, isOutput, isInput, isFeed}
 use Rattle.grammar.specs.Lines.{Outcome, refused, taken}
-use Rattle.grammar.specs.Rows.{fieldAt, wordEnd, stretch}
+use Rattle.grammar.specs.Rows.{rowAt, word, fieldAt, wordEnd, stretch}
 use Rattle.grammar.specs.Lexed.{stretch-field}
 use Rattle.fields.specs.declared.Fields.{Fields}
-use Rattle.fields.specs.Promise.{Told}
 use Rattle.notes.specs.declared.Counts.{Counts}
 use Rattle.notes.specs.Notes.{draftOf, Fit, Stands}
 use Rattle.notes.proofs.Slots.{units-are, outputs-are, inputs-are, feeds-are}
 use Rattle.text.specs.declared.Taken.{Taken}
-use Rattle.text.specs.Took.{Took}
+use Rattle.text.specs.Took.{Told, Took}
 
 module _ (t p s : List ℕ) (c : Counts) where
   -- refused, with the notes as they were
@@ -91,3 +90,16 @@ pub word-ends : (t : List ℕ) (a : ℕ) (l : Fields) → Told t a l → (i b e 
     → b ≡ getD (l .from) i 0 → e ≡ getD (l .to) i 0 → (b ≤ e) × (e ≤ length t)
 unfolding wordEnd
 word-ends t a l told i b e h g p q = (omega (arith, told .ends i h g), omega (arith, told .within i h g))
+
+-- the same outcome by another name
+pub retold : {t p s : List ℕ} {r : Taken} {o q : Outcome} → Took t p s r o → o ≡ q → Took t p s r q
+retold k e = record {
+  number = k .number ∙ ap (λ (x : Outcome). x .number) e;
+  stands = record { fit = k .stands .fit; is = k .stands .is ∙ ap (λ (x : Outcome). x .draft) e };
+}
+
+-- the keyword of a line
+pub first-word : (t : List ℕ) (a : ℕ) (l : Fields) → Told t a l → (b e : ℕ) → b ≡ getD (l .from) 0 0
+    → e ≡ getD (l .to) 0 0 → stretch t b e ≡ word (rowAt t a) 0
+first-word t a l told b e p q =
+    word-here t a l told 0 b e (omega arith) (told .some) p q ∙ told .words 0 (omega arith) (told .some)

@@ -11,11 +11,10 @@ use Rattle.grammar.specs.Rows.{rowAt, word, fieldAt}
 use Rattle.grammar.specs.Draft.{Draft, Feed, unjoined, unitNamed, outputNamed, inputNamed, feedOf, sourceOf, addFeed, addJoin}
 use Rattle.grammar.specs.Lines.{refuse, refused, taken, feedLine, joinLine}
 use Rattle.fields.specs.declared.Fields.{Fields}
-use Rattle.fields.specs.Promise.{Told}
 use Rattle.notes.specs.declared.Counts.{Counts}
 use Rattle.notes.specs.Notes.{draftOf, Fit, Stands}
 use Rattle.notes.proofs.Slots.{feeds-are, source-is}
-use Rattle.text.specs.Took.{shapeOf, Took}
+use Rattle.text.specs.Took.{Told, shapeOf, Took}
 use Rattle.text.proofs.Shape.{Lets, shape-lets, shape-stops}
 use Rattle.text.proofs.Outcomes.{stays, moves, is-unit, no-unit, is-output, no-output, is-input, no-input, is-feed, no-feed, full, space}
 

@@ -7,8 +7,14 @@ use lib.ListN.{length}
 use lib.Dec.{eqb, ltb}
 use Rattle.grammar.specs.Words.{same, unit, out, inp, feed, join}
 use Rattle.grammar.specs.Lines.{Outcome, faulty}
+use Rattle.grammar.specs.Lexed.{Lexed}
+use Rattle.fields.specs.declared.Fields.{Fields}
 use Rattle.notes.specs.Notes.{Stands}
 use Rattle.text.specs.declared.Taken.{Taken}
+
+-- the fields of the line that begins at place a are told right
+abbrev pub Told : List ℕ → ℕ → Fields → Type 0
+Told t a l = Lexed t a (l .from) (l .to) (l .count) (l .next)
 
 -- 24 for another number of fields, 25 where one of the first names is no name, else 0
 unfoldable pub shapeOf : List (List ℕ) → ℕ → ℕ → ℕ
