@@ -1,1 +1,2 @@
 pub mod Took
+pub mod Walked
