@@ -6,3 +6,4 @@ pub mod Keywords
 pub mod Checks
 pub mod Going
 pub mod Noticing
+pub mod Packing

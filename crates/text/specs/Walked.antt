@@ -44,13 +44,6 @@ pub record Noticed (t p s : List ℕ) (r : Noted) : Type 0 where
   pub fit : r .number ≡ 0 → Fit t p s (r .counts)
   pub left : (room : ℕ) → reading room t ≡ cond (eqb (r .number) 0) (roomed room (draftOf t p s (r .counts))) (stopped (r .number) (r .place))
 
--- the packed bytes, from the slots, one part behind the other
-unfoldable pub bytesOf : List ℕ → Counts → List ℕ
-bytesOf s c =
-    (((((((c .units ∷ []) ++ (c .outputs ∷ [])) ++ (c .inputs ∷ [])) ++ (c .feeds ∷ []))
-    ++ take (c .outputs) (drop 256 s)) ++ take (c .inputs) (drop 352 s)) ++ take (c .inputs) (drop 448 s))
-    ++ take (c .inputs) (drop 544 s) ++ take (2 * c .feeds) (drop 640 s)
-
 -- the answer and the buffer are those that the reading asks for
 pub record Answered (g : Reading) (before after : List ℕ) (r : Read) : Type 0 where
   pub answer : r ≡ record { number = g .number; place = g .place }

@@ -5,6 +5,7 @@ mod lines;
 mod whole;
 mod walk;
 mod noting;
+mod pack;
 use notes::Counts;
 
 // The number of a line's refusal, or 0, and what has been noted after it.

@@ -1,0 +1,57 @@
+-- The bytes that are packed are those of the draft that is noted.
+use Prim.Native.Nat.{ℕ, zero, suc, _+_, _-_, _*_, _≤_, _<_}
+use mathlib.Core.Path.{_≡_, refl, sym, ap, _∙_}
+use mathlib.Core.List.{List, [], _∷_, _++_, map, append-assoc}
+use native.Mathlib.Omega.{arith}
+use lib.ListN.{length, getD, take, drop, length-append, length-drop}
+use lib.Seq.{length-take-le, drop-cons, take-append-add}
+use Rattle.grammar.specs.Draft.{Draft, Output, Input, Feed}
+use Rattle.grammar.specs.Reading.{packed, pairs}
+use Rattle.notes.specs.declared.Counts.{Counts}
+use Rattle.notes.specs.Listed.{listed, listed-map, listed-part, listed-length}
+use Rattle.notes.specs.Notes.{nameAt, outputAt, inputAt, feedAt, draftOf, Fit}
+use Rattle.notes.proofs.Slots.{units-are, outputs-are, inputs-are, feeds-are}
+use Rattle.text.specs.Packs.{Slotted, slotsFrom, bytesOf}
+
+pub fit-slotted : (t p s : List ℕ) (c : Counts) → Fit t p s c → Slotted s c
+fit-slotted t p s c f = record {
+  long = f .slots-long;
+  units-most = f .units-most;
+  outputs-most = f .outputs-most;
+  inputs-most = f .inputs-most;
+  feeds-most = f .feeds-most;
+}
+
+slots-are : (s : List ℕ) (b n : ℕ) → b + n ≤ length s → listed (λ i. getD s (b + i) 0) n ≡ slotsFrom s b n
+slots-are s b n h = listed-part s b n h ∙ ap (λ k. take k (drop b s)) (let z : n ≡ (b + n) - b = omega arith in z)
+
+pub slots-long : (s : List ℕ) (b n : ℕ) → b + n ≤ length s → length (slotsFrom s b n) ≡ n
+slots-long s b n h =
+    length-take-le ((b + n) - b) (drop b s) (rw (length-drop b s) (omega arith)) ∙ (let z : (b + n) - b ≡ n = omega arith in z)
+
+pairs-append : (xs : List Feed) (f : Feed) → pairs (xs ++ (f ∷ [])) ≡ pairs xs ++ (f .input ∷ f .output ∷ [])
+unfolding pairs
+pairs-append [] f = refl
+pairs-append (x ∷ xs) f = rw (pairs-append xs f)
+
+-- two slots more
+listed-two : (g : ℕ → ℕ) (n : ℕ) → listed g (2 * suc n) ≡ listed g (2 * n) ++ (g (2 * n) ∷ g (suc (2 * n)) ∷ [])
+unfolding listed
+listed-two g n =
+    ap (listed g) (let z : 2 * suc n ≡ suc (suc (2 * n)) = omega arith in z)
+    ∙ append-assoc (listed g (2 * n)) (g (2 * n) ∷ []) (g (suc (2 * n)) ∷ [])
+
+pairs-are : (s : List ℕ) (n : ℕ) → pairs (listed (feedAt s) n) ≡ listed (λ i. getD s (640 + i) 0) (2 * n)
+unfolding listed pairs feedAt
+pairs-are s zero = refl
+pairs-are s (suc n) =
+    pairs-append (listed (feedAt s) n) (feedAt s n)
+    ∙ rw (pairs-are s n)
+      (sym (listed-two (λ i. getD s (640 + i) 0) n
+        ∙ ap (λ k. listed (λ i. getD s (640 + i) 0) (2 * n) ++ (getD s (640 + 2 * n) 0 ∷ getD s k 0 ∷ []))
+          (let z : 640 + suc (2 * n) ≡ 641 + 2 * n = omega arith in z)))
+
+module _ (t p s : List ℕ) (c : Counts) (f : Fit t p s c) where
+  pub packed-is : packed (draftOf t p s c) ≡ bytesOf s c
+  unfolding packed draftOf bytesOf outputAt inputAt
+  packed-is = ?
