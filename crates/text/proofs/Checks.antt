@@ -12,7 +12,7 @@ use borrow.Author.Tests.{eq-eqb, ne-eqb, lt-ltb, le-ltb}
 use Rattle.grammar.specs.Words.{lf, same, cosim, one}
 use Rattle.grammar.specs.Rows.{rows, word, times, lineOf, firstBad}
 use Rattle.grammar.specs.Reading.{Reading, reading, lineByLine, stopped, version}
-use Rattle.text.specs.declared.Read.{Read}
+use Rattle.text.specs.declared.Answer.{Answer}
 use Rattle.text.specs.Walked.{Ended, Whole}
 
 pub times-le : (c : ℕ) (t : List ℕ) → times c t ≤ length t

@@ -7,3 +7,4 @@ pub mod Checks
 pub mod Going
 pub mod Noticing
 pub mod Packing
+pub mod Answers

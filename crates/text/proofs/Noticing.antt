@@ -14,7 +14,7 @@ use Rattle.fields.specs.declared.Fields.{Fields}
 use Rattle.notes.specs.declared.Counts.{Counts}
 use Rattle.notes.specs.Notes.{draftOf, Fit}
 use Rattle.notes.proofs.Slots.{units-are, line-is}
-use Rattle.text.specs.declared.Read.{Read}
+use Rattle.text.specs.declared.Answer.{Answer}
 use Rattle.text.specs.declared.Noted.{Noted}
 use Rattle.text.specs.Took.{Told}
 use Rattle.text.specs.Walked.{Ended, Whole, Walked, Closed, Noticed, roomed}
@@ -44,7 +44,7 @@ module _ (t p s : List ℕ) (c : Counts) where
 
 -- ---- the whole
 
-module _ (t p s : List ℕ) (w : Read) (h : Whole t w) where
+module _ (t p s : List ℕ) (w : Answer) (h : Whole t w) where
   pub notice-whole : (w .number ≡ 0 → ⊥) → (c : Counts) → Noticed t p s (record { number = w .number; place = w .place; counts = c })
   notice-whole n c = record {
     fit = λ z. absurd (n z);

@@ -54,4 +54,24 @@ pairs-are s (suc n) =
 module _ (t p s : List ℕ) (c : Counts) (f : Fit t p s c) where
   pub packed-is : packed (draftOf t p s c) ≡ bytesOf s c
   unfolding packed draftOf bytesOf outputAt inputAt
-  packed-is = ?
+  packed-is =
+      let l : length s ≡ 896 = f .slots-long in
+      rw (listed-length (nameAt t p) (c .units), listed-length (outputAt t p s) (c .outputs),
+        listed-length (inputAt t p s) (c .inputs), listed-length (feedAt s) (c .feeds),
+        listed-map (λ (o : Output). o .owner) (outputAt t p s) (c .outputs), slots-are s 256 (c .outputs) (omega (arith, f .outputs-most)),
+        listed-map (λ (i : Input). i .owner) (inputAt t p s) (c .inputs), slots-are s 352 (c .inputs) (omega (arith, f .inputs-most)),
+        listed-map (λ (i : Input). i .kind) (inputAt t p s) (c .inputs), slots-are s 448 (c .inputs) (omega (arith, f .inputs-most)),
+        listed-map (λ (i : Input). i .source) (inputAt t p s) (c .inputs), slots-are s 544 (c .inputs) (omega (arith, f .inputs-most)),
+        pairs-are s (c .feeds), slots-are s 640 (2 * c .feeds) (omega (arith, f .feeds-most)))
+      (simp append-assoc)
+
+-- the packed length, from the counts
+pub bytes-long : (s : List ℕ) (c : Counts) → Slotted s c
+    → length (bytesOf s c) ≡ 4 + c .outputs + 3 * c .inputs + 2 * c .feeds
+unfolding bytesOf
+bytes-long s c g =
+    let l : length s ≡ 896 = g .long in
+    simp (length-append, slots-long s 256 (c .outputs) (omega (arith, g .outputs-most)),
+      slots-long s 352 (c .inputs) (omega (arith, g .inputs-most)), slots-long s 448 (c .inputs) (omega (arith, g .inputs-most)),
+      slots-long s 544 (c .inputs) (omega (arith, g .inputs-most)), slots-long s 640 (2 * c .feeds) (omega (arith, g .feeds-most)))
+    (omega arith)

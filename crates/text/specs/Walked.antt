@@ -11,7 +11,7 @@ use Rattle.grammar.specs.Draft.{Draft}
 use Rattle.grammar.specs.Reading.{Reading, reading, lineByLine, ending, stopped, packed, written}
 use Rattle.notes.specs.declared.Counts.{Counts}
 use Rattle.notes.specs.Notes.{draftOf, Fit}
-use Rattle.text.specs.declared.Read.{Read}
+use Rattle.text.specs.declared.Answer.{Answer}
 use Rattle.text.specs.declared.Noted.{Noted}
 
 -- a text that passes 20 and 21
@@ -21,7 +21,7 @@ pub record Ended (t : List ℕ) : Type 0 where
   pub last : getD t (length t - 1) 0 ≡ 10
 
 -- 20, 21 or 22 of the whole text; or it is read line by line
-pub record Whole (t : List ℕ) (r : Read) : Type 0 where
+pub record Whole (t : List ℕ) (r : Answer) : Type 0 where
   pub ended : r .number ≡ 0 → Ended t
   pub left : (room : ℕ) → reading room t ≡ cond (eqb (r .number) 0) (lineByLine room (rows t)) (stopped (r .number) (r .place))
 
@@ -45,6 +45,6 @@ pub record Noticed (t p s : List ℕ) (r : Noted) : Type 0 where
   pub left : (room : ℕ) → reading room t ≡ cond (eqb (r .number) 0) (roomed room (draftOf t p s (r .counts))) (stopped (r .number) (r .place))
 
 -- the answer and the buffer are those that the reading asks for
-pub record Answered (g : Reading) (before after : List ℕ) (r : Read) : Type 0 where
+pub record Answered (g : Reading) (before after : List ℕ) (r : Answer) : Type 0 where
   pub answer : r ≡ record { number = g .number; place = g .place }
   pub bytes : after ≡ fronted (g .bytes) before

@@ -6,27 +6,27 @@ ghost use Rattle.text.specs.Took.{Told};
 ghost use Rattle.text.specs.Walked.{Whole};
 use fields::Fields;
 use crate::names;
-use crate::Read;
+use crate::Answer;
 
 // 20, 21 or 22 with its line, or 0.
-pub fn check(text: &[u8]) -> Read
+pub fn check(text: &[u8]) -> Answer
     ensures { λ r. ⌜ Whole (now (text .entry)) r ⌝ }
 {
     let size = text.len();
     if size == 0 {
-        return Read { number: 20, place: 0 };
+        return Answer { number: 20, place: 0 };
     }
     if 24576 < size {
-        return Read { number: 20, place: 0 };
+        return Answer { number: 20, place: 0 };
     }
     if text[size - 1] != b'\n' {
-        return Read { number: 21, place: scan::line_ends(text) + 1 };
+        return Answer { number: 21, place: scan::line_ends(text) + 1 };
     }
     let bad = scan::first_bad(text);
     if bad < size {
-        return Read { number: 22, place: scan::line_ends(&text[..bad]) + 1 };
+        return Answer { number: 22, place: scan::line_ends(&text[..bad]) + 1 };
     }
-    Read { number: 0, place: 0 }
+    Answer { number: 0, place: 0 }
 }
 
 // The version that the first line names, or 0.

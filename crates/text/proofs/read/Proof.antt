@@ -1,0 +1,53 @@
+use borrow.Author.Needs.{needs}
+use Rattle.text.proofs.read.Statement.{statement}
+use Rattle.text.proofs.read.Tie as tie
+use Rattle.text.proofs.read.Reads as reads
+use Rattle.text.proofs.read.Lts as lts
+use Rattle.text.proofs.noting.note.Reads as note-reads
+use Rattle.text.proofs.pack.pack.Reads as pack-reads
+use Rattle.text.proofs.pack.size.Reads as size-reads
+
+-- src/lib.rt:39:9
+note-requires : tie.Need-note-requires
+note-requires c κs = search needs
+
+-- src/lib.rt:42:9
+returns : tie.Need-returns
+returns c = ?
+
+-- src/lib.rt:45:9
+size-requires : tie.Need-size-requires
+size-requires c κs = ?
+
+-- src/lib.rt:47:9
+returns-2 : tie.Need-returns-2
+returns-2 c = ?
+
+-- src/lib.rt:49:16
+slice-aggregate-pack : tie.Need-slice-aggregate-pack
+slice-aggregate-pack c = ?
+
+-- src/lib.rt:49:5
+pack-requires : tie.Need-pack-requires
+pack-requires c κs = ?
+
+-- src/lib.rt:34:1
+same-length : tie.Need-same-length
+same-length c = search needs
+
+-- src/lib.rt:34:1
+returns-3 : tie.Need-returns-3
+returns-3 c = ?
+
+pub read-spec : {M : Type 1} → statement M
+read-spec =
+    tie.close
+    (tie.spec
+    note-requires
+    returns
+    size-requires
+    returns-2
+    slice-aggregate-pack
+    pack-requires
+    same-length
+    returns-3)
