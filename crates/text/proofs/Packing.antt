@@ -11,6 +11,9 @@ use Rattle.notes.specs.declared.Counts.{Counts}
 use Rattle.notes.specs.Listed.{listed, listed-map, listed-part, listed-length}
 use Rattle.notes.specs.Notes.{nameAt, outputAt, inputAt, feedAt, draftOf, Fit}
 use Rattle.notes.proofs.Slots.{units-are, outputs-are, inputs-are, feeds-are}
+use Rattle.search.specs.Front.{fronted}
+use Rattle.pen.specs.Put.{Put}
+use Rattle.pen.specs.Chain.{put-fits, wrote-put, wrote-front}
 use Rattle.text.specs.Packs.{Slotted, slotsFrom, bytesOf}
 
 pub fit-slotted : (t p s : List ℕ) (c : Counts) → Fit t p s c → Slotted s c
@@ -75,3 +78,61 @@ bytes-long s c g =
       slots-long s 352 (c .inputs) (omega (arith, g .inputs-most)), slots-long s 448 (c .inputs) (omega (arith, g .inputs-most)),
       slots-long s 544 (c .inputs) (omega (arith, g .inputs-most)), slots-long s 640 (2 * c .feeds) (omega (arith, g .feeds-most)))
     (omega arith)
+
+-- nine puts, one behind the other, write the packed bytes
+module _ (s : List ℕ) (c : Counts) (out : List ℕ) (room : length (bytesOf s c) ≤ length out) where
+  abbrev p₁ : List ℕ
+  p₁ = c .units ∷ []
+  abbrev p₂ : List ℕ
+  p₂ = p₁ ++ (c .outputs ∷ [])
+  abbrev p₃ : List ℕ
+  p₃ = p₂ ++ (c .inputs ∷ [])
+  abbrev p₄ : List ℕ
+  p₄ = p₃ ++ (c .feeds ∷ [])
+  abbrev p₅ : List ℕ
+  p₅ = p₄ ++ slotsFrom s 256 (c .outputs)
+  abbrev p₆ : List ℕ
+  p₆ = p₅ ++ slotsFrom s 352 (c .inputs)
+  abbrev p₇ : List ℕ
+  p₇ = p₆ ++ slotsFrom s 448 (c .inputs)
+  abbrev p₈ : List ℕ
+  p₈ = p₇ ++ slotsFrom s 544 (c .inputs)
+  abbrev p₉ : List ℕ
+  p₉ = p₈ ++ slotsFrom s 640 (2 * c .feeds)
+
+  whole : length p₉ ≤ length out
+  unfolding bytesOf
+  whole = room
+
+  shorter : (a b : List ℕ) → 0 + length (a ++ b) ≤ length out → 0 + length a ≤ length out
+  shorter a b h = omega (arith, length-append a b)
+
+  r₈ : 0 + length p₈ ≤ length out
+  r₈ = shorter p₈ (slotsFrom s 640 (2 * c .feeds)) (omega (arith, whole))
+  r₇ : 0 + length p₇ ≤ length out
+  r₇ = shorter p₇ (slotsFrom s 544 (c .inputs)) r₈
+  r₆ : 0 + length p₆ ≤ length out
+  r₆ = shorter p₆ (slotsFrom s 448 (c .inputs)) r₇
+  r₅ : 0 + length p₅ ≤ length out
+  r₅ = shorter p₅ (slotsFrom s 352 (c .inputs)) r₆
+  r₄ : 0 + length p₄ ≤ length out
+  r₄ = shorter p₄ (slotsFrom s 256 (c .outputs)) r₅
+
+  pub puts-packed : {o₁ o₂ o₃ o₄ o₅ o₆ o₇ o₈ o₉ : List ℕ} {k₁ k₂ k₃ k₄ k₅ k₆ k₇ k₈ k₉ : ℕ}
+      → Put out 0 (c .units ∷ []) o₁ k₁ → Put o₁ k₁ (c .outputs ∷ []) o₂ k₂ → Put o₂ k₂ (c .inputs ∷ []) o₃ k₃
+      → Put o₃ k₃ (c .feeds ∷ []) o₄ k₄ → Put o₄ k₄ (slotsFrom s 256 (c .outputs)) o₅ k₅
+      → Put o₅ k₅ (slotsFrom s 352 (c .inputs)) o₆ k₆ → Put o₆ k₆ (slotsFrom s 448 (c .inputs)) o₇ k₇
+      → Put o₇ k₇ (slotsFrom s 544 (c .inputs)) o₈ k₈ → Put o₈ k₈ (slotsFrom s 640 (2 * c .feeds)) o₉ k₉
+      → o₉ ≡ fronted (bytesOf s c) out
+  unfolding bytesOf
+  puts-packed a b d e f g h i j =
+      let w₁ = put-fits a (omega (arith, r₄)) in
+      let w₂ = wrote-put w₁ b (omega (arith, r₄)) in
+      let w₃ = wrote-put w₂ d (omega (arith, r₄)) in
+      let w₄ = wrote-put w₃ e r₄ in
+      let w₅ = wrote-put w₄ f r₅ in
+      let w₆ = wrote-put w₅ g r₆ in
+      let w₇ = wrote-put w₆ h r₇ in
+      let w₈ = wrote-put w₇ i r₈ in
+      let w₉ = wrote-put w₈ j (omega (arith, whole)) in
+      wrote-front w₉ .1
