@@ -10,6 +10,7 @@ use mathlib.Core.Path.{refl}
 use native.Mathlib.Omega.{arith}
 use Rattle.text.proofs.Packing.{fit-slotted}
 use Rattle.text.proofs.Answers.{read-refused, read-34, read-room, read-done}
+use mathlib.Core.Path.{sym}
 
 -- src/lib.rt:39:9
 note-requires : tie.Need-note-requires
@@ -29,11 +30,11 @@ returns-2 c = read-34 _ _ _ _ (c .before .before .before .before .note .ensures)
 
 -- src/lib.rt:49:16
 slice-aggregate-pack : tie.Need-slice-aggregate-pack
-slice-aggregate-pack c = (c .before .before .before .before .before .note .ensures .fit (c .before .before .before .before .if1 .left)) .slots-long
+slice-aggregate-pack c = sym ((c .before .before .before .before .before .note .ensures .fit (c .before .before .before .before .if1 .left)) .slots-long)
 
 -- src/lib.rt:49:5
 pack-requires : tie.Need-pack-requires
-pack-requires c κs = (fit-slotted _ _ _ _ (c .before .before .before .before .before .before .note .ensures .fit (c .before .before .before .before .before .if1 .left)), read-room _ _ _ _ (c .before .before .before .before .before .before .note .ensures) _ (c .before .before .before .before .before .if1 .left) _ (c .before .before .before .size .ensures) (c .before .before .if2 .left))
+pack-requires c κs = (fit-slotted _ _ _ _ (c .before .before .before .before .before .before .note .ensures .fit (c .before .before .before .before .before .if1 .left)), read-room _ _ _ _ (c .before .before .before .before .before .before .note .ensures) (c .before .before .before .before .before .before .before .before .before .before .before .args .out .now) (c .before .before .before .before .before .if1 .left) _ (c .before .before .before .size .ensures) (c .before .before .if2 .left))
 
 -- src/lib.rt:34:1
 same-length : tie.Need-same-length
