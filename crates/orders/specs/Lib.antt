@@ -1,0 +1,9 @@
+pub mod Keeps
+pub mod Cycle
+pub mod First
+pub mod Sort
+pub mod Walk
+pub mod Turn
+pub mod Follows
+pub mod Apart
+pub mod Unique
