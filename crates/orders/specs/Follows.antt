@@ -65,8 +65,8 @@ module _ (N : ℕ) (pred : ℕ → ℕ → Bool) where
     (λ a h t. elim (either (done a)) [
       | inl d ↦ d
       | inr d ↦
-        absurd
-        (let (i, hi, e) = k .holds a h d in omega (arith, k .rules i 0 hi (omega arith) (rw e t)))
+          absurd
+          (let (i, hi, e) = k .holds a h d in omega (arith, k .rules i 0 hi (omega arith) (rw e t)))
     ]),
     from→follows (add c done) l (from-tail done c l k),
   )
@@ -96,8 +96,8 @@ module _ (N : ℕ) (pred : ℕ → ℕ → Bool) where
   follows-holds done (x ∷ l) f c h t = elim (ℕ-discrete c x) [
     | yes e ↦ (0, omega arith, sym e)
     | no ne ↦
-      (let (i, hi, e) = follows-holds (add x done) l (f .3) c h (not-add x done c ne t) in
-      (suc i, omega arith, e))
+        (let (i, hi, e) = follows-holds (add x done) l (f .3) c h (not-add x done c ne t) in
+        (suc i, omega arith, e))
   ]
 
   follows-once : (done : ℕ → Bool) (l : List ℕ) → Follows done l → (i j : ℕ) → i < length l → j < length l

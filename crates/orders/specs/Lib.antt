@@ -7,3 +7,9 @@ pub mod Turn
 pub mod Follows
 pub mod Apart
 pub mod Unique
+pub mod Sorted
+pub mod Walked
+pub mod Remains
+pub mod Turned
+pub mod Seen
+pub mod Shown

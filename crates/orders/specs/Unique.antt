@@ -20,7 +20,7 @@ module _ (l m : List ℕ) (b : Before l m) (b′ : Before m l) (e : length l ≡
       go same = elim (ℕ-discrete j i) [
         | no ne ↦ same j (omega arith)
         | yes z ↦
-          rw z (le-antisymm (b i (omega arith) same) (b′ i (omega arith) (λ k hk. sym (same k hk))))
+            rw z (le-antisymm (b i (omega arith) same) (b′ i (omega arith) (λ k hk. sym (same k hk))))
       ]
 
   -- two lists of one length, neither of which comes after the other, are one
