@@ -1,0 +1,7 @@
+pub mod Conditions
+pub mod Passes
+pub mod Verdict
+pub mod Met
+pub mod Judged
+pub mod Place
+pub mod Kept

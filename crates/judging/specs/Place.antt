@@ -1,0 +1,63 @@
+-- Where the verdict stops: the first call whose conditions fail, with its number and place.
+use mathlib.Core.Path.{_≡_, ap, _∙_}
+use mathlib.Core.Logic.{_≢_}
+use mathlib.Core.Bool.{Bool}
+use mathlib.Core.List.{List, [], _∷_}
+use Prim.Native.Nat.{ℕ, suc, _+_, _<_}
+use native.Mathlib.Omega.{arith}
+use native.Mathlib.Decide.{ℕ-discrete}
+use lib.ListN.{length, getD, take}
+use Rattle.search.specs.Sets.{none, add}
+use Rattle.table.specs.declared.Answer.{Answer}
+use Rattle.table.specs.Shape.{Shape, total}
+use Rattle.judging.specs.Conditions.{refusalAt}
+use Rattle.judging.specs.Passes.{after, Meets}
+use Rattle.judging.specs.Verdict.{answer, verdictFrom}
+use Rattle.judging.specs.Met.{meets-iff}
+use Rattle.judging.specs.Judged.{MeetsAll, one-more, verdict-end, verdict-short, verdict-on, verdict-off}
+
+module _ (s : Shape) where
+  -- what an answer tells of an order: a pass, or the first call whose conditions fail, or the end before N calls
+  pub data Tells (done : ℕ → Bool) (l : List ℕ) (k : ℕ) (a : Answer) : Type 0 where
+    -- each call meets its conditions and N calls were taken
+    passed : MeetsAll s done l (length l) → k + length l ≡ total s → a ≡ answer 0 (k + length l)
+        → Tells done l k a
+    -- each call meets its conditions and other than N calls were taken
+    ended : MeetsAll s done l (length l) → k + length l ≢ total s → a ≡ answer 18 (k + length l)
+        → Tells done l k a
+    -- all before place i meet their conditions, that at i does not and has this number
+    refused : (i : ℕ) → i < length l → MeetsAll s done l i
+        → (Meets s (after done (take i l)) (getD l i 0) → ⊥)
+        → a ≡ answer (refusalAt s (after done (take i l)) (getD l i 0)) (k + i) → Tells done l k a
+
+  tells-on : (done : ℕ → Bool) (c : ℕ) (l : List ℕ) (k : ℕ) (a : Answer) → Meets s done c
+      → Tells (add c done) l (suc k) a → Tells done (c ∷ l) k a
+  tells-on done c l k a m (passed ms n e) =
+      passed (one-more s done c l (length l) m ms) (omega arith) (e ∙ ap (answer 0) (omega arith))
+  tells-on done c l k a m (ended ms n e) =
+      ended (one-more s done c l (length l) m ms) (λ z. n (omega arith)) (e ∙ ap (answer 18) (omega arith))
+  tells-on done c l k a m (refused i h ms n e) =
+      refused (suc i) (omega arith) (one-more s done c l i m ms) n
+      (e ∙ ap (answer (refusalAt s (after (add c done) (take i l)) (getD l i 0))) (omega arith))
+
+  pub verdict-tells : (done : ℕ → Bool) (l : List ℕ) (k : ℕ) → Tells done l k (verdictFrom s done l k)
+  verdict-tells done [] k = elim (ℕ-discrete k (total s)) [
+    | yes z ↦
+        passed (λ i h. absurd (omega arith)) (omega arith)
+        (verdict-end s done k z ∙ ap (answer 0) (omega arith))
+    | no z ↦
+        ended (λ i h. absurd (omega arith)) (λ e. z (omega arith))
+        (verdict-short s done k z ∙ ap (answer 18) (omega arith))
+  ]
+  verdict-tells done (c ∷ l) k = elim (ℕ-discrete (refusalAt s done c) 0) [
+    | yes z ↦
+        tells-on done c l k (verdictFrom s done (c ∷ l) k) (meets-iff s done c .0 z)
+        (rw (verdict-on s done c l k z) (verdict-tells (add c done) l (suc k)))
+    | no z ↦
+        refused 0 (omega arith) (λ j h. absurd (omega arith)) (λ m. z (meets-iff s done c .1 m))
+        (verdict-off s done c l k z ∙ ap (answer (refusalAt s done c)) (omega arith))
+  ]
+
+  -- from the start, where place counts from 0
+  pub verdict-place : (l : List ℕ) → Tells none l 0 (verdictFrom s none l 0)
+  verdict-place l = verdict-tells none l 0
