@@ -13,7 +13,16 @@ use Rattle.search.specs.Every.{every-yes, every-no, some-yes, some-no}
 use Rattle.table.specs.declared.Answer.{Answer}
 use Rattle.table.specs.Packed.{units, outputs, inputs, feeds, asked, pairInput, pairOutput}
 use Rattle.table.specs.Check.{
-  orElse, countsIn, allBelow, isPair, feedKnown, feedAgain, feedsFrom, refusal, checked }
+  orElse,
+  countsIn,
+  allBelow,
+  isPair,
+  feedKnown,
+  feedAgain,
+  feedsFrom,
+  refusal,
+  checked,
+}
 
 -- ---- the counts
 
@@ -49,7 +58,7 @@ module _ (bytes : List ℕ) (bound : ℕ) where
   below-this i r e h = rw (← e, lt-ltb r bound h) tt
 
   pub below-stop : (i r : ℕ) → i < length bytes → r ≡ getD bytes i 0 → bound ≤ r
-    → false ≡ allBelow bound bytes
+      → false ≡ allBelow bound bytes
   unfolding allBelow
   below-stop i r h e g =
       every-no (λ k. ltb (getD bytes k 0) bound) (length bytes) i h (rw (← e, le-ltb r bound g) tt)
@@ -79,7 +88,7 @@ module _ (outs ins ps : List ℕ) (k i o : ℕ) (ei : i ≡ pairInput ps k) (eo 
   known-output g h = rw (← ei, ← eo, lt-ltb i (length ins) g, le-ltb o (length outs) h)
 
   pub known-owners : i < length ins → o < length outs
-    → eqb (getD ins i 0) (getD outs o 0) ≡ feedKnown outs ins ps k
+      → eqb (getD ins i 0) (getD outs o 0) ≡ feedKnown outs ins ps k
   unfolding feedKnown
   known-owners g h = rw (← ei, ← eo, lt-ltb i (length ins) g, lt-ltb o (length outs) h)
 
@@ -91,7 +100,7 @@ module _ (ps : List ℕ) (k : ℕ) where
   Fresh j = (i : ℕ) → i < j → T (not (isPair ps i (pairInput ps k) (pairOutput ps k)))
 
   pub again-here : (j : ℕ) → j < k → T (isPair ps j (pairInput ps k) (pairOutput ps k))
-    → true ≡ feedAgain ps k
+      → true ≡ feedAgain ps k
   unfolding feedAgain
   again-here j h t = some-yes (λ j. isPair ps j (pairInput ps k) (pairOutput ps k)) k j h t
 
@@ -114,32 +123,24 @@ module _ (outs ins ps : List ℕ) (f k : ℕ) where
   feeds-unknown h a = rw (left h, a)
 
   pub feeds-again : k < f → feedKnown outs ins ps k ≡ true → feedAgain ps k ≡ true
-    → feedsFrom outs ins ps (f - k) k ≡ 7
+      → feedsFrom outs ins ps (f - k) k ≡ 7
   unfolding feedsFrom orElse
   feeds-again h a b = rw (left h, a, b)
 
   pub feeds-on : k < f → feedKnown outs ins ps k ≡ true → feedAgain ps k ≡ false
-    → feedsFrom outs ins ps (f - k) k ≡ feedsFrom outs ins ps (f - (k + 1)) (k + 1)
+      → feedsFrom outs ins ps (f - k) k ≡ feedsFrom outs ins ps (f - (k + 1)) (k + 1)
   unfolding feedsFrom orElse
   feeds-on h a b = rw (left h, a, b, add-one)
 
 pub feeds-start : (outs ins ps : List ℕ) (f : ℕ)
-  → feedsFrom outs ins ps f 0 ≡ feedsFrom outs ins ps (f - 0) 0
+    → feedsFrom outs ins ps f 0 ≡ feedsFrom outs ins ps (f - 0) 0
 feeds-start outs ins ps f = let e : f - 0 ≡ f = omega arith in rw e
 
--- ---- a chain of checks
-
-pub else-stops : (b : Bool) (n later : ℕ) → b ≡ false → orElse b n later ≡ n
-unfolding orElse
-else-stops b n later e = rw e
-
-pub else-goes : (b : Bool) (n later : ℕ) → b ≡ true → orElse b n later ≡ later
-unfolding orElse
-else-goes b n later e = rw e
+-- ---- from the code's values to the table's
 
 -- the check of a part, from the code's bound and bytes to the table's
 pub held : {r s : Bool} {b bound : ℕ} {bytes part : List ℕ} → r ≡ allBelow b bytes → b ≡ bound
-  → bytes ≡ part → r ≡ s → allBelow bound part ≡ s
+    → bytes ≡ part → r ≡ s → allBelow bound part ≡ s
 held {r} {s} {b} {bound} {bytes} {part} e p q f = rw (← p, ← q) (sym e ∙ f)
 
 -- as many bytes as pairs ask
@@ -148,29 +149,29 @@ pairs-room f n ps qs p l e = rw (p, l, e) (omega arith)
 
 -- the feeds, from the code's lists to the table's
 pub feeds-same : {r f g : ℕ} {o i p os is ps : List ℕ} → r ≡ feedsFrom o i p f 0
-  → o ≡ os → i ≡ is → p ≡ ps → f ≡ g → r ≡ feedsFrom os is ps g 0
+    → o ≡ os → i ≡ is → p ≡ ps → f ≡ g → r ≡ feedsFrom os is ps g 0
 feeds-same {r} {f} {g} {o} {i} {p} {os} {is} {ps} e eo ei ep ef = rw (← eo, ← ei, ← ep, ← ef) e
 
 -- the counts, from the code's numbers to the table's
 pub counts-same : {r s : Bool} {u y x f a b c d : ℕ} → r ≡ countsIn u y x f → u ≡ a → y ≡ b → x ≡ c → f ≡ d
-  → r ≡ s → countsIn a b c d ≡ s
+    → r ≡ s → countsIn a b c d ≡ s
 counts-same {r} {s} {u} {y} {x} {f} {a} {b} {c} {d} e p q v w z = rw (← p, ← q, ← v, ← w) (sym e ∙ z)
 
 -- the length that the code's counts ask
 pub asked-same : (t : List ℕ) (y x f : ℕ) → y ≡ outputs t → x ≡ inputs t → f ≡ feeds t
-  → 4 + y + 3 * x + 2 * f ≡ asked t
+    → 4 + y + 3 * x + 2 * f ≡ asked t
 unfolding asked
 asked-same t y x f p q r = rw (p, q, r)
 
 -- ---- the answer
 
 pub answer-refused : (t : List ℕ) (n : ℕ) → n ≡ refusal t → (n ≡ 0 → ⊥)
-  → _≡_ {A = Answer} (record { number = n; place = 0 }) (checked t)
+    → _≡_ {A = Answer} (record { number = n; place = 0 }) (checked t)
 unfolding checked
 answer-refused t n e z = rw (← e, ne-eqb n 0 z)
 
 pub answer-sound : (t : List ℕ) (n u y x : ℕ) → n ≡ refusal t → n ≡ 0
-  → u ≡ units t → y ≡ outputs t → x ≡ inputs t
-  → _≡_ {A = Answer} (record { number = 0; place = u + y + x }) (checked t)
+    → u ≡ units t → y ≡ outputs t → x ≡ inputs t
+    → _≡_ {A = Answer} (record { number = 0; place = u + y + x }) (checked t)
 unfolding checked
 answer-sound t n u y x e z p q r = rw (← e, z, p, q, r)

@@ -6,7 +6,17 @@ use native.Mathlib.Omega.{arith}
 use lib.ListN.{length, take, drop, length-drop}
 use lib.Seq.{length-take-le}
 use Rattle.table.specs.Packed.{
-  outputs, inputs, feeds, part, outputOwners, inputOwners, kinds, sources, pairs, asked }
+  outputs,
+  inputs,
+  feeds,
+  part,
+  outputOwners,
+  inputOwners,
+  kinds,
+  sources,
+  pairs,
+  asked,
+}
 
 pub part-long : (t : List ℕ) (a n : ℕ) → a + n ≤ length t → length (part t a n) ≡ n
 part-long t a n h = length-take-le n (drop a t) (rw (length-drop a t) (omega arith))

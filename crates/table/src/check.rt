@@ -4,11 +4,27 @@ ghost use Prim.Native.Nat.{_+_, _*_, _≤_, _<_};
 ghost use lib.ListN.{length};
 ghost use Rattle.table.specs.Packed.{asked};
 ghost use Rattle.table.specs.Check.{
-    countsIn, allBelow, isPair, feedKnown, feedAgain, feedsFrom, wiring as wiring-of, refusal, checked
+  countsIn,
+  allBelow,
+  isPair,
+  feedKnown,
+  feedAgain,
+  feedsFrom,
+  wiring as wiring-of,
+  refusal,
+  checked,
 };
 use crate::Answer;
-use crate::parts::{byte, unit_count, output_count, input_count, feed_count};
-use crate::parts::{output_owners, input_owners, input_kinds, input_sources, feed_pairs};
+use crate::parts::byte;
+use crate::parts::feed_count;
+use crate::parts::feed_pairs;
+use crate::parts::input_count;
+use crate::parts::input_kinds;
+use crate::parts::input_owners;
+use crate::parts::input_sources;
+use crate::parts::output_count;
+use crate::parts::output_owners;
+use crate::parts::unit_count;
 
 // Is each count in its range?
 fn counts_in(u: usize, y: usize, x: usize, f: usize) -> bool
@@ -90,9 +106,7 @@ fn feed_again(pairs: &[u8], k: usize) -> bool
 // The feeds, pair by pair: 6, 7 or 0.
 fn feeds_refusal(outs: &[u8], ins: &[u8], pairs: &[u8], f: usize) -> u8
     requires { ⌜ 2 * f ≤ length (now pairs) ⌝ }
-    ensures {
-        λ r. ⌜ r ≡ feedsFrom (now (outs .entry)) (now (ins .entry)) (now (pairs .entry)) f 0 ⌝
-    }
+    ensures { λ r. ⌜ r ≡ feedsFrom (now (outs .entry)) (now (ins .entry)) (now (pairs .entry)) f 0 ⌝ }
 {
     let mut k = 0;
     while k < f {

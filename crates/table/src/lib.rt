@@ -1,6 +1,6 @@
 // The packed table: its parts and its check.
-pub mod parts;
 pub mod check;
+pub mod parts;
 
 // A number and a place: what every call on packed tables answers.
 #[repr(C)]

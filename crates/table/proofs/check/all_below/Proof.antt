@@ -1,8 +1,5 @@
 use Rattle.table.proofs.check.all_below.Statement.{statement}
 use Rattle.table.proofs.check.all_below.Tie as tie
-use Rattle.table.proofs.check.all_below.Reads as reads
-use Rattle.table.proofs.check.all_below.Lts as lts
-use Rattle.table.proofs.parts.byte.Reads as byte-reads
 use borrow.Author.Needs.{needs}
 use Prim.Native.Nat.{_≤_, _-_}
 use lib.ListN.{length}
@@ -16,31 +13,24 @@ Inv-loop bytes bound i₀ i = (i ≤ length bytes) × Below bytes bound i
 abbrev μ-loop : tie.MeasureT-loop
 μ-loop bytes bound i₀ i = length bytes - i
 
--- src/check.rt:37:5
 loop-holds : tie.Need-loop-holds Inv-loop μ-loop
 loop-holds c = (search needs, λ k h. absurd (omega arith))
 
--- src/check.rt:38:21
 byte-requires : tie.Need-byte-requires Inv-loop μ-loop
 byte-requires c κs = search needs
 
--- src/check.rt:39:13
 returns : tie.Need-returns Inv-loop μ-loop
 returns c = below-stop _ _ _ _ (c .before .before .loop-test .taken) (c .before .byte .ensures .0) (c .if1 .taken)
 
--- src/check.rt:41:9
 add-i : tie.Need-add-i Inv-loop μ-loop
 add-i c = search needs
 
--- src/check.rt:37:5
 loop-less : tie.Need-loop-less Inv-loop μ-loop
 loop-less c = search needs
 
--- src/check.rt:37:5
 loop-again : tie.Need-loop-again Inv-loop μ-loop
 loop-again c = (search needs, below-more _ _ (c .before .before .before .loop .inv .1) (below-this (c .before .before .before .before .before .args .bytes .now) _ (c .before .before .before .loop .i) _ (c .before .byte .ensures .0) (c .if1 .left)))
 
--- src/check.rt:33:1
 returns-2 : tie.Need-returns-2 Inv-loop μ-loop
 returns-2 c = below-end _ _ _ (c .loop-test .left) (c .before .loop .inv .1)
 

@@ -1,43 +1,29 @@
 use borrow.Author.Needs.{needs}
 use Rattle.table.proofs.check.check.Statement.{statement}
 use Rattle.table.proofs.check.check.Tie as tie
-use Rattle.table.proofs.check.check.Reads as reads
-use Rattle.table.proofs.check.check.Lts as lts
-use Rattle.table.proofs.check.first_refusal.Reads as first-refusal-reads
-use Rattle.table.proofs.parts.input_count.Reads as input-count-reads
-use Rattle.table.proofs.parts.output_count.Reads as output-count-reads
-use Rattle.table.proofs.parts.unit_count.Reads as unit-count-reads
 use Rattle.table.proofs.Checking.{answer-refused, answer-sound}
 
--- src/check.rt:155:9
 first-refusal-requires : tie.Need-first-refusal-requires
 first-refusal-requires c κs = search needs
 
--- src/check.rt:157:9
 returns : tie.Need-returns
 returns c = answer-refused _ _ (c .before .first-refusal .ensures) (c .if1 .taken)
 
--- src/check.rt:164:16
 unit-count-requires : tie.Need-unit-count-requires
 unit-count-requires c κs = search needs
 
--- src/check.rt:164:36
 output-count-requires : tie.Need-output-count-requires
 output-count-requires c κs = search needs
 
--- src/check.rt:164:16
 add-t6 : tie.Need-add-t6
 add-t6 c = search needs
 
--- src/check.rt:164:58
 input-count-requires : tie.Need-input-count-requires
 input-count-requires c κs = search needs
 
--- src/check.rt:164:16
 add-t8 : tie.Need-add-t8
 add-t8 c = search needs
 
--- src/check.rt:152:1
 returns-2 : tie.Need-returns-2
 returns-2 c = answer-sound _ _ _ _ _ (c .before .before .before .before .first-refusal .ensures) (c .before .before .before .if1 .left) (c .before .before .unit-count .ensures .0) (c .before .output-count .ensures .0) (c .input-count .ensures .0)
 

@@ -1,27 +1,20 @@
 use Rattle.table.proofs.check.counts_in.Statement.{statement}
 use Rattle.table.proofs.check.counts_in.Tie as tie
-use Rattle.table.proofs.check.counts_in.Reads as reads
-use Rattle.table.proofs.check.counts_in.Lts as lts
 use borrow.Author.Needs.{needs}
 use Rattle.table.proofs.Checking.{counts-none, counts-units, counts-outputs, counts-inputs, counts-feeds}
 
--- src/check.rt:18:9
 returns : tie.Need-returns
 returns c = counts-none _ _ _ _ (c .if1 .taken)
 
--- src/check.rt:21:9
 returns-2 : tie.Need-returns-2
 returns-2 c = counts-units _ _ _ _ (c .before .if1 .left) (c .if2 .taken)
 
--- src/check.rt:24:9
 returns-3 : tie.Need-returns-3
 returns-3 c = counts-outputs _ _ _ _ (c .before .before .if1 .left) (c .before .if2 .left) (c .if3 .taken)
 
--- src/check.rt:27:9
 returns-4 : tie.Need-returns-4
 returns-4 c = counts-inputs _ _ _ _ (c .before .before .before .if1 .left) (c .before .before .if2 .left) (c .before .if3 .left) (c .if4 .taken)
 
--- src/check.rt:14:1
 returns-5 : tie.Need-returns-5
 returns-5 c = counts-feeds _ _ _ _ (c .before .before .before .if1 .left) (c .before .before .if2 .left) (c .before .if3 .left) (c .if4 .left)
 

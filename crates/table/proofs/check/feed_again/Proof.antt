@@ -1,8 +1,5 @@
 use Rattle.table.proofs.check.feed_again.Statement.{statement}
 use Rattle.table.proofs.check.feed_again.Tie as tie
-use Rattle.table.proofs.check.feed_again.Reads as reads
-use Rattle.table.proofs.check.feed_again.Lts as lts
-use Rattle.table.proofs.check.is_pair.Reads as is-pair-reads
 use borrow.Author.Needs.{needs}
 use Prim.Native.Nat.{_≤_, _-_}
 use borrow.Author.Count.{below-more}
@@ -16,51 +13,39 @@ Inv-loop pairs k input output j₀ j = (j ≤ k) × Fresh pairs k j
 abbrev μ-loop : tie.MeasureT-loop
 μ-loop pairs k input output j₀ j = k - j
 
--- src/check.rt:78:23
 mul-input : tie.Need-mul-input Inv-loop μ-loop
 mul-input c = search needs
 
--- src/check.rt:78:17
 shared-slice-read-input : tie.Need-shared-slice-read-input Inv-loop μ-loop
 shared-slice-read-input c = search needs
 
--- src/check.rt:79:24
 mul-output : tie.Need-mul-output Inv-loop μ-loop
 mul-output c = search needs
 
--- src/check.rt:79:24
 add-output : tie.Need-add-output Inv-loop μ-loop
 add-output c = search needs
 
--- src/check.rt:79:18
 shared-slice-read-output : tie.Need-shared-slice-read-output Inv-loop μ-loop
 shared-slice-read-output c = search needs
 
--- src/check.rt:81:5
 loop-holds : tie.Need-loop-holds Inv-loop μ-loop
 loop-holds c = (search needs, λ k h. absurd (omega arith))
 
--- src/check.rt:82:12
 is-pair-requires : tie.Need-is-pair-requires Inv-loop μ-loop
 is-pair-requires c κs = search needs
 
--- src/check.rt:83:13
 returns : tie.Need-returns Inv-loop μ-loop
 returns c = again-here _ _ _ (c .before .before .loop-test .taken) (says (c .before .is-pair .ensures) (c .if1 .taken))
 
--- src/check.rt:85:9
 add-j : tie.Need-add-j Inv-loop μ-loop
 add-j c = search needs
 
--- src/check.rt:81:5
 loop-less : tie.Need-loop-less Inv-loop μ-loop
 loop-less c = search needs
 
--- src/check.rt:81:5
 loop-again : tie.Need-loop-again Inv-loop μ-loop
 loop-again c = (search needs, below-more _ _ (c .before .before .before .loop .inv .1) (denies (c .before .is-pair .ensures) (c .if1 .left)))
 
--- src/check.rt:74:1
 returns-2 : tie.Need-returns-2 Inv-loop μ-loop
 returns-2 c = again-not _ _ _ (c .loop-test .left) (c .before .loop .inv .1)
 

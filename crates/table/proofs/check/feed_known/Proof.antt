@@ -1,48 +1,35 @@
 use borrow.Author.Needs.{needs}
 use Rattle.table.proofs.check.feed_known.Statement.{statement}
 use Rattle.table.proofs.check.feed_known.Tie as tie
-use Rattle.table.proofs.check.feed_known.Reads as reads
-use Rattle.table.proofs.check.feed_known.Lts as lts
-use Rattle.table.proofs.parts.byte.Reads as byte-reads
 use Rattle.table.proofs.Checking.{known-input, known-output, known-owners}
 
--- src/check.rt:51:29
 mul-byte : tie.Need-mul-byte
 mul-byte c = search needs
 
--- src/check.rt:51:9
 byte-requires : tie.Need-byte-requires
 byte-requires c κs = search needs
 
--- src/check.rt:52:30
 mul-byte-2 : tie.Need-mul-byte-2
 mul-byte-2 c = search needs
 
--- src/check.rt:52:30
 add-byte : tie.Need-add-byte
 add-byte c = search needs
 
--- src/check.rt:52:9
 byte-requires-2 : tie.Need-byte-requires-2
 byte-requires-2 c κs = search needs
 
--- src/check.rt:54:9
 returns : tie.Need-returns
 returns c = known-input _ _ _ _ _ _ (c .before .before .byte .ensures .0) (c .before .byte2 .ensures .0) (c .if1 .taken)
 
--- src/check.rt:57:9
 returns-2 : tie.Need-returns-2
 returns-2 c = known-output _ _ _ _ _ _ (c .before .before .before .byte .ensures .0) (c .before .before .byte2 .ensures .0) (c .before .if1 .left) (c .if2 .taken)
 
--- src/check.rt:59:5
 shared-slice-read-result : tie.Need-shared-slice-read-result
 shared-slice-read-result c = search needs
 
--- src/check.rt:59:19
 shared-slice-read-result-2 : tie.Need-shared-slice-read-result-2
 shared-slice-read-result-2 c = search needs
 
--- src/check.rt:47:1
 returns-3 : tie.Need-returns-3
 returns-3 c = known-owners _ _ _ _ _ _ (c .before .before .before .before .before .byte .ensures .0) (c .before .before .before .before .byte2 .ensures .0) (c .before .before .before .if1 .left) (c .before .before .if2 .left)
 

@@ -1,9 +1,5 @@
 use Rattle.table.proofs.check.feeds_refusal.Statement.{statement}
 use Rattle.table.proofs.check.feeds_refusal.Tie as tie
-use Rattle.table.proofs.check.feeds_refusal.Reads as reads
-use Rattle.table.proofs.check.feeds_refusal.Lts as lts
-use Rattle.table.proofs.check.feed_again.Reads as feed-again-reads
-use Rattle.table.proofs.check.feed_known.Reads as feed-known-reads
 use borrow.Author.Needs.{needs}
 use Prim.Native.Nat.{_≤_, _-_}
 use mathlib.Core.Path.{_≡_, sym, _∙_}
@@ -17,39 +13,30 @@ Inv-loop outs ins pairs f k₀ k = (k ≤ f) × (feedsFrom outs ins pairs f 0 �
 abbrev μ-loop : tie.MeasureT-loop
 μ-loop outs ins pairs f k₀ k = f - k
 
--- src/check.rt:98:5
 loop-holds : tie.Need-loop-holds Inv-loop μ-loop
 loop-holds c = (search needs, feeds-start _ _ _ _)
 
--- src/check.rt:99:13
 feed-known-requires : tie.Need-feed-known-requires Inv-loop μ-loop
 feed-known-requires c κs = search needs
 
--- src/check.rt:100:13
 returns : tie.Need-returns Inv-loop μ-loop
 returns c = sym (c .before .before .before .loop .inv .1 ∙ feeds-unknown _ _ _ _ _ (c .before .before .loop-test .taken) (sym (c .before .feed-known .ensures) ∙ not-true _ (c .if1 .taken)))
 
--- src/check.rt:102:12
 feed-again-requires : tie.Need-feed-again-requires Inv-loop μ-loop
 feed-again-requires c κs = search needs
 
--- src/check.rt:103:13
 returns-2 : tie.Need-returns-2 Inv-loop μ-loop
 returns-2 c = sym (c .before .before .before .before .before .loop .inv .1 ∙ feeds-again _ _ _ _ _ (c .before .before .before .before .loop-test .taken) (sym (c .before .before .before .feed-known .ensures) ∙ not-false _ (c .before .before .if1 .left)) (sym (c .before .feed-again .ensures) ∙ c .if2 .taken))
 
--- src/check.rt:105:9
 add-k : tie.Need-add-k Inv-loop μ-loop
 add-k c = search needs
 
--- src/check.rt:98:5
 loop-less : tie.Need-loop-less Inv-loop μ-loop
 loop-less c = search needs
 
--- src/check.rt:98:5
 loop-again : tie.Need-loop-again Inv-loop μ-loop
 loop-again c = (search needs, c .before .before .before .before .before .loop .inv .1 ∙ feeds-on _ _ _ _ _ (c .before .before .before .before .loop-test .taken) (sym (c .before .before .before .feed-known .ensures) ∙ not-false _ (c .before .before .if1 .left)) (sym (c .before .feed-again .ensures) ∙ c .if2 .left))
 
--- src/check.rt:91:1
 returns-3 : tie.Need-returns-3 Inv-loop μ-loop
 returns-3 c = sym (c .before .loop .inv .1 ∙ feeds-end _ _ _ _ _ (c .loop-test .left))
 

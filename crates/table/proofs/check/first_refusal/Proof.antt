@@ -1,79 +1,57 @@
 use borrow.Author.Needs.{needs}
 use Rattle.table.proofs.check.first_refusal.Statement.{statement}
 use Rattle.table.proofs.check.first_refusal.Tie as tie
-use Rattle.table.proofs.check.first_refusal.Reads as reads
-use Rattle.table.proofs.check.first_refusal.Lts as lts
-use Rattle.table.proofs.check.counts_in.Reads as counts-in-reads
-use Rattle.table.proofs.check.wiring.Reads as wiring-reads
-use Rattle.table.proofs.parts.feed_count.Reads as feed-count-reads
-use Rattle.table.proofs.parts.input_count.Reads as input-count-reads
-use Rattle.table.proofs.parts.output_count.Reads as output-count-reads
-use Rattle.table.proofs.parts.unit_count.Reads as unit-count-reads
 use mathlib.Core.Path.{refl, sym, _∙_}
 use borrow.Author.Tests.{not-true, not-false, lt-leb, le-leb, eq-eqb, ne-eqb}
 use Rattle.table.specs.Check.{refusal}
-use Rattle.table.proofs.Checking.{else-stops, else-goes, counts-same, asked-same}
+use Rattle.table.specs.Chain.{else-stops, else-goes}
+use Rattle.table.proofs.Checking.{counts-same, asked-same}
 
--- src/check.rt:137:9
 returns : tie.Need-returns
 unfolding refusal
 returns c = sym (else-stops _ _ _ (lt-leb 4 _ (c .if1 .taken)))
 
--- src/check.rt:139:9
 output-count-requires : tie.Need-output-count-requires
 output-count-requires c κs = search needs
 
--- src/check.rt:140:9
 input-count-requires : tie.Need-input-count-requires
 input-count-requires c κs = search needs
 
--- src/check.rt:141:9
 feed-count-requires : tie.Need-feed-count-requires
 feed-count-requires c κs = search needs
 
--- src/check.rt:142:19
 unit-count-requires : tie.Need-unit-count-requires
 unit-count-requires c κs = search needs
 
--- src/check.rt:142:9
 counts-in-requires : tie.Need-counts-in-requires
 counts-in-requires c κs = search needs
 
--- src/check.rt:143:9
 returns-2 : tie.Need-returns-2
 unfolding refusal
 returns-2 c = sym (else-goes _ _ _ (le-leb 4 _ (c .before .before .before .before .before .before .if1 .left)) ∙ else-stops _ _ _ (counts-same (c .before .counts-in .ensures) (c .before .before .unit-count .ensures .0) (c .before .before .before .before .before .output-count .ensures .0) (c .before .before .before .before .input-count .ensures .0) (c .before .before .before .feed-count .ensures .0) (not-true _ (c .if2 .taken))))
 
--- src/check.rt:145:23
 add-if3 : tie.Need-add-if3
 add-if3 c = search needs
 
--- src/check.rt:145:31
 mul-if3 : tie.Need-mul-if3
 mul-if3 c = search needs
 
--- src/check.rt:145:23
 add-if3-2 : tie.Need-add-if3-2
 add-if3-2 c = search needs
 
--- src/check.rt:145:39
 mul-if3-2 : tie.Need-mul-if3-2
 mul-if3-2 c = search needs
 
--- src/check.rt:145:23
 add-if3-3 : tie.Need-add-if3-3
 add-if3-3 c = search needs
 
--- src/check.rt:146:9
 returns-3 : tie.Need-returns-3
 unfolding refusal
 returns-3 c = sym (else-goes _ _ _ (le-leb 4 _ (c .before .before .before .before .before .before .before .if1 .left)) ∙ else-goes _ _ _ (counts-same (c .before .before .counts-in .ensures) (c .before .before .before .unit-count .ensures .0) (c .before .before .before .before .before .before .output-count .ensures .0) (c .before .before .before .before .before .input-count .ensures .0) (c .before .before .before .before .feed-count .ensures .0) (not-false _ (c .before .if2 .left))) ∙ else-stops _ _ _ (ne-eqb _ _ (λ e. c .if3 .taken (e ∙ sym (asked-same _ _ _ _ (c .before .before .before .before .before .before .output-count .ensures .0) (c .before .before .before .before .before .input-count .ensures .0) (c .before .before .before .before .feed-count .ensures .0))))))
 
--- src/check.rt:148:5
 wiring-requires : tie.Need-wiring-requires
 wiring-requires c κs = c .if3 .left ∙ asked-same _ _ _ _ (c .before .before .before .before .before .before .output-count .ensures .0) (c .before .before .before .before .before .input-count .ensures .0) (c .before .before .before .before .feed-count .ensures .0)
 
--- src/check.rt:133:1
 returns-4 : tie.Need-returns-4
 unfolding refusal
 returns-4 c = c .wiring .ensures ∙ sym (else-goes _ _ _ (le-leb 4 _ (c .before .before .before .before .before .before .before .before .if1 .left)) ∙ else-goes _ _ _ (counts-same (c .before .before .before .counts-in .ensures) (c .before .before .before .before .unit-count .ensures .0) (c .before .before .before .before .before .before .before .output-count .ensures .0) (c .before .before .before .before .before .before .input-count .ensures .0) (c .before .before .before .before .before .feed-count .ensures .0) (not-false _ (c .before .before .if2 .left))) ∙ else-goes _ _ _ (eq-eqb _ _ (c .before .if3 .left ∙ asked-same _ _ _ _ (c .before .before .before .before .before .before .before .output-count .ensures .0) (c .before .before .before .before .before .before .input-count .ensures .0) (c .before .before .before .before .before .feed-count .ensures .0))))

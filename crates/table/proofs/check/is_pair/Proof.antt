@@ -1,35 +1,26 @@
 use borrow.Author.Needs.{needs}
 use Rattle.table.proofs.check.is_pair.Statement.{statement}
 use Rattle.table.proofs.check.is_pair.Tie as tie
-use Rattle.table.proofs.check.is_pair.Reads as reads
-use Rattle.table.proofs.check.is_pair.Lts as lts
 use Rattle.table.proofs.Checking.{pair-other, pair-half}
 
--- src/check.rt:67:14
 mul-if1 : tie.Need-mul-if1
 mul-if1 c = search needs
 
--- src/check.rt:67:8
 shared-slice-read-if1 : tie.Need-shared-slice-read-if1
 shared-slice-read-if1 c = search needs
 
--- src/check.rt:68:9
 returns : tie.Need-returns
 returns c = pair-other (c .before .before .args .pairs .now) _ _ _ (c .if1 .taken)
 
--- src/check.rt:70:11
 mul-result : tie.Need-mul-result
 mul-result c = search needs
 
--- src/check.rt:70:11
 add-result : tie.Need-add-result
 add-result c = search needs
 
--- src/check.rt:70:5
 shared-slice-read-result : tie.Need-shared-slice-read-result
 shared-slice-read-result c = search needs
 
--- src/check.rt:63:1
 returns-2 : tie.Need-returns-2
 returns-2 c = pair-half (c .before .before .before .args .pairs .now) (c .before .before .before .args .j) (c .before .before .before .args .input) (c .before .before .before .args .output) (c .before .if1 .left)
 

@@ -1,101 +1,71 @@
 use borrow.Author.Needs.{needs}
 use Rattle.table.proofs.check.wiring.Statement.{statement}
 use Rattle.table.proofs.check.wiring.Tie as tie
-use Rattle.table.proofs.check.wiring.Reads as reads
-use Rattle.table.proofs.check.wiring.Lts as lts
-use Rattle.table.proofs.check.all_below.Reads as all-below-reads
-use Rattle.table.proofs.check.feeds_refusal.Reads as feeds-refusal-reads
-use Rattle.table.proofs.parts.feed_count.Reads as feed-count-reads
-use Rattle.table.proofs.parts.feed_pairs.Reads as feed-pairs-reads
-use Rattle.table.proofs.parts.input_kinds.Reads as input-kinds-reads
-use Rattle.table.proofs.parts.input_owners.Reads as input-owners-reads
-use Rattle.table.proofs.parts.input_sources.Reads as input-sources-reads
-use Rattle.table.proofs.parts.output_count.Reads as output-count-reads
-use Rattle.table.proofs.parts.output_owners.Reads as output-owners-reads
-use Rattle.table.proofs.parts.unit_count.Reads as unit-count-reads
 use mathlib.Core.Path.{refl, sym, _∙_}
 use borrow.Author.Tests.{not-true, not-false}
 use Rattle.table.specs.Check.{wiring}
 use Rattle.table.specs.Layout.{long-pairs}
-use Rattle.table.proofs.Checking.{else-stops, else-goes, held, pairs-room, feeds-same}
+use Rattle.table.specs.Chain.{else-stops, else-goes}
+use Rattle.table.proofs.Checking.{held, pairs-room, feeds-same}
 
--- src/check.rt:115:9
 output-owners-requires : tie.Need-output-owners-requires
 output-owners-requires c κs = search needs
 
--- src/check.rt:116:9
 input-owners-requires : tie.Need-input-owners-requires
 input-owners-requires c κs = search needs
 
--- src/check.rt:117:25
 unit-count-requires : tie.Need-unit-count-requires
 unit-count-requires c κs = search needs
 
--- src/check.rt:117:9
 all-below-requires : tie.Need-all-below-requires
 all-below-requires c κs = search needs
 
--- src/check.rt:118:9
 returns : tie.Need-returns
 unfolding wiring
 returns c = sym (else-stops _ _ _ (held (c .before .all-below .ensures) (c .before .before .unit-count .ensures .0) (c .before .before .before .before .output-owners .ensures) (not-true _ (c .if1 .taken))))
 
--- src/check.rt:120:24
 unit-count-requires-2 : tie.Need-unit-count-requires-2
 unit-count-requires-2 c κs = search needs
 
--- src/check.rt:120:9
 all-below-requires-2 : tie.Need-all-below-requires-2
 all-below-requires-2 c κs = search needs
 
--- src/check.rt:121:9
 returns-2 : tie.Need-returns-2
 unfolding wiring
 returns-2 c = sym (else-goes _ _ _ (held (c .before .before .before .before .all-below .ensures) (c .before .before .before .before .before .unit-count .ensures .0) (c .before .before .before .before .before .before .before .output-owners .ensures) (not-false _ (c .before .before .before .if1 .left))) ∙ else-stops _ _ _ (held (c .before .all-below2 .ensures) (c .before .before .unit-count2 .ensures .0) (c .before .before .before .before .before .before .input-owners .ensures) (not-true _ (c .if2 .taken))))
 
--- src/check.rt:123:19
 input-kinds-requires : tie.Need-input-kinds-requires
 input-kinds-requires c κs = search needs
 
--- src/check.rt:123:9
 all-below-requires-3 : tie.Need-all-below-requires-3
 all-below-requires-3 c κs = search needs
 
--- src/check.rt:124:9
 returns-3 : tie.Need-returns-3
 unfolding wiring
 returns-3 c = sym (else-goes _ _ _ (held (c .before .before .before .before .before .before .before .all-below .ensures) (c .before .before .before .before .before .before .before .before .unit-count .ensures .0) (c .before .before .before .before .before .before .before .before .before .before .output-owners .ensures) (not-false _ (c .before .before .before .before .before .before .if1 .left))) ∙ else-goes _ _ _ (held (c .before .before .before .before .all-below2 .ensures) (c .before .before .before .before .before .unit-count2 .ensures .0) (c .before .before .before .before .before .before .before .before .before .input-owners .ensures) (not-false _ (c .before .before .before .if2 .left))) ∙ else-stops _ _ _ (held (c .before .all-below3 .ensures) refl (c .before .before .input-kinds .ensures) (not-true _ (c .if3 .taken))))
 
--- src/check.rt:126:19
 input-sources-requires : tie.Need-input-sources-requires
 input-sources-requires c κs = search needs
 
--- src/check.rt:126:41
 output-count-requires : tie.Need-output-count-requires
 output-count-requires c κs = search needs
 
--- src/check.rt:126:9
 all-below-requires-4 : tie.Need-all-below-requires-4
 all-below-requires-4 c κs = search needs
 
--- src/check.rt:127:9
 returns-4 : tie.Need-returns-4
 unfolding wiring
 returns-4 c = sym (else-goes _ _ _ (held (c .before .before .before .before .before .before .before .before .before .before .before .all-below .ensures) (c .before .before .before .before .before .before .before .before .before .before .before .before .unit-count .ensures .0) (c .before .before .before .before .before .before .before .before .before .before .before .before .before .before .output-owners .ensures) (not-false _ (c .before .before .before .before .before .before .before .before .before .before .if1 .left))) ∙ else-goes _ _ _ (held (c .before .before .before .before .before .before .before .before .all-below2 .ensures) (c .before .before .before .before .before .before .before .before .before .unit-count2 .ensures .0) (c .before .before .before .before .before .before .before .before .before .before .before .before .before .input-owners .ensures) (not-false _ (c .before .before .before .before .before .before .before .if2 .left))) ∙ else-goes _ _ _ (held (c .before .before .before .before .before .all-below3 .ensures) refl (c .before .before .before .before .before .before .input-kinds .ensures) (not-false _ (c .before .before .before .before .if3 .left))) ∙ else-stops _ _ _ (held (c .before .all-below4 .ensures) (c .before .before .output-count .ensures .0) (c .before .before .before .input-sources .ensures) (not-true _ (c .if4 .taken))))
 
--- src/check.rt:129:30
 feed-pairs-requires : tie.Need-feed-pairs-requires
 feed-pairs-requires c κs = search needs
 
--- src/check.rt:129:49
 feed-count-requires : tie.Need-feed-count-requires
 feed-count-requires c κs = search needs
 
--- src/check.rt:129:5
 feeds-refusal-requires : tie.Need-feeds-refusal-requires
 feeds-refusal-requires c κs = pairs-room _ _ _ _ (c .before .feed-pairs .ensures) (long-pairs _ (c .before .before .before .before .before .before .before .before .before .before .before .before .before .before .before .before .before .before .pre)) (c .feed-count .ensures .0)
 
--- src/check.rt:111:1
 returns-5 : tie.Need-returns-5
 unfolding wiring
 returns-5 c = feeds-same (c .feeds-refusal .ensures) (c .before .before .before .before .before .before .before .before .before .before .before .before .before .before .before .before .before .output-owners .ensures) (c .before .before .before .before .before .before .before .before .before .before .before .before .before .before .before .before .input-owners .ensures) (c .before .before .feed-pairs .ensures) (c .before .feed-count .ensures .0) ∙ sym (else-goes _ _ _ (held (c .before .before .before .before .before .before .before .before .before .before .before .before .before .before .all-below .ensures) (c .before .before .before .before .before .before .before .before .before .before .before .before .before .before .before .unit-count .ensures .0) (c .before .before .before .before .before .before .before .before .before .before .before .before .before .before .before .before .before .output-owners .ensures) (not-false _ (c .before .before .before .before .before .before .before .before .before .before .before .before .before .if1 .left))) ∙ else-goes _ _ _ (held (c .before .before .before .before .before .before .before .before .before .before .before .all-below2 .ensures) (c .before .before .before .before .before .before .before .before .before .before .before .before .unit-count2 .ensures .0) (c .before .before .before .before .before .before .before .before .before .before .before .before .before .before .before .before .input-owners .ensures) (not-false _ (c .before .before .before .before .before .before .before .before .before .before .if2 .left))) ∙ else-goes _ _ _ (held (c .before .before .before .before .before .before .before .before .all-below3 .ensures) refl (c .before .before .before .before .before .before .before .before .before .input-kinds .ensures) (not-false _ (c .before .before .before .before .before .before .before .if3 .left))) ∙ else-goes _ _ _ (held (c .before .before .before .before .all-below4 .ensures) (c .before .before .before .before .before .output-count .ensures .0) (c .before .before .before .before .before .before .input-sources .ensures) (not-false _ (c .before .before .before .if4 .left))))
