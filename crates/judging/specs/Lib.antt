@@ -5,3 +5,4 @@ pub mod Met
 pub mod Judged
 pub mod Place
 pub mod Kept
+pub mod Demand
