@@ -15,7 +15,7 @@ mapfile -t EXPORTS < <(sed 's/#.*//' "$ROOT/tests/exports.txt" | awk 'NF == 2 { 
 # The plain C versions, as libplain.a under their own names and as archives under the library's.
 build_plain() {
     local source name objects=() rename=()
-    for name in check order verdict read list; do
+    for name in check order verdict read list names pack packed_length; do
         rename+=(--redefine-sym "plain_$name=oorlichday_$name")
     done
     mkdir -p "$ROOT/target/tests/plain"
