@@ -1,0 +1,6 @@
+pub mod Truth
+pub mod Sets
+pub mod Least
+pub mod Every
+pub mod Count
+pub mod Front
