@@ -36,5 +36,5 @@ fn main() {
         let (proved, plain) = (cost(&counter, oorlichday_check, &table), cost(&counter, plain_check, &table));
         row(member.family, &format!("N = {}", member.table.calls()), proved, plain);
     }
-    row("worst found", "each its own", worst(8_000, oorlichday_check).0, worst(8_000, plain_check).0);
+    row("worst found", "each its own", worst(4_000, oorlichday_check).0, worst(4_000, plain_check).0);
 }

@@ -40,5 +40,5 @@ fn main() {
         let (proved, plain) = (cost(&counter, oorlichday_order, &table), cost(&counter, plain_order, &table));
         row(member.family, &format!("N = {}", member.table.calls()), proved, plain);
     }
-    row("worst found", "each its own", worst(8_000, oorlichday_order).0, worst(8_000, plain_order).0);
+    row("worst found", "each its own", worst(4_000, oorlichday_order).0, worst(4_000, plain_order).0);
 }

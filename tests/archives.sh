@@ -12,9 +12,9 @@ archive_of() {
 
 mapfile -t EXPORTS < <(sed 's/#.*//' "$ROOT/tests/exports.txt" | awk 'NF == 2 { print $2 }')
 
-# The plain C versions, as libplain.a under their own names and as archives under the library's.
+# The plain C versions: libplain.a under their own names, libnamed.a under the library's.
 build_plain() {
-    local source name objects=() rename=()
+    local source name rename=()
     for name in check order verdict read list names pack packed_length; do
         rename+=(--redefine-sym "plain_$name=oorlichday_$name")
     done
@@ -28,8 +28,7 @@ build_plain() {
             "$OBJCOPY" "${rename[@]}" "$name.o" "named_$name.o"
         done
         "$AR" rcs libplain.a check.o order.o verdict.o read.o list.o
-        "$AR" rcs libfirmware.a named_*.o
-        cp libfirmware.a libdesk.a
+        "$AR" rcs libnamed.a named_*.o
     )
 }
 
@@ -38,6 +37,7 @@ proved) ARCHIVES=$ROOT/target/staticlib ;;
 plain)
     ARCHIVES=$ROOT/target/tests/plain
     EXPORTS=(check order verdict read list)
+    archive_of() { echo named; }
     build_plain
     ;;
 *)

@@ -4,11 +4,14 @@ passed=0 failed=0
 
 # part NAME COMMAND...: runs it and adds its count; one that ends badly or reports nothing is a failure.
 part() {
-    local name=$1 log good bad status=0
+    local name=$1 log good bad status
     shift
     log=$(mktemp)
     echo "== $name"
-    "$@" </dev/null 2>&1 | tee "$log" || status=$?
+    set +e
+    (set -e && "$@") </dev/null 2>&1 | tee "$log"
+    status=${PIPESTATUS[0]}
+    set -e
     read -r good bad < <(sed -nE 's/.*\b([0-9]+) passed[,;] ([0-9]+) failed.*/\1 \2/p' "$log" | tail -n 1) || true
     rm -f "$log"
     if [ -z "${good:-}" ]; then

@@ -9,7 +9,7 @@ struct edge {
 
 struct graph {
     unsigned calls;
-    struct edge **after, **before;
+    struct edge **after;
     unsigned *waiting;
 };
 
@@ -36,15 +36,13 @@ static void push_edge(struct edge **list, unsigned call)
 static void add_edge(struct graph *g, unsigned first, unsigned second)
 {
     push_edge(&g->after[first], second);
-    push_edge(&g->before[second], first);
     g->waiting[second]++;
 }
 
 static struct graph graph_of(const struct table *t)
 {
     unsigned n = calls_of(t), get = t->units, set = t->units + t->outputs;
-    struct graph g = { n, need(calloc(n, sizeof *g.after)), need(calloc(n, sizeof *g.before)),
-                       need(calloc(n, sizeof *g.waiting)) };
+    struct graph g = { n, need(calloc(n, sizeof *g.after)), need(calloc(n, sizeof *g.waiting)) };
     for (unsigned o = 0; o < t->outputs; o++)
         add_edge(&g, t->output_owner[o], get + o);
     for (unsigned i = 0; i < t->inputs; i++) {
@@ -98,7 +96,7 @@ static unsigned heap_pop(struct heap *h)
     return lowest;
 }
 
-/* Places all that can be placed; a placed call's waiting count becomes its own mark. */
+/* Places all that can be placed, and tells how many. */
 static unsigned place_all(struct graph *g, unsigned char *placed, unsigned *order)
 {
     struct heap ready = { 0, need(malloc(g->calls * sizeof *ready.calls)) };
@@ -118,24 +116,31 @@ static unsigned place_all(struct graph *g, unsigned char *placed, unsigned *orde
     return count;
 }
 
+/* For each remaining call its lowest remaining direct predecessor. */
+static unsigned *lowest_before(const struct graph *g, const unsigned char *placed)
+{
+    unsigned *lowest = need(malloc(g->calls * sizeof *lowest));
+    for (unsigned c = g->calls; c-- > 0;)
+        for (struct edge *e = g->after[c]; e != NULL && !placed[c]; e = e->next)
+            lowest[e->call] = c;
+    return lowest;
+}
+
 /* The backward walk; the cycle goes to the front of the buffer from its lowest call on. */
 static unsigned show_cycle(const struct graph *g, const unsigned char *placed, unsigned *walk,
                            uint8_t *out)
 {
     int *visit = need(malloc(g->calls * sizeof *visit));
+    unsigned *previous = lowest_before(g, placed);
     unsigned call = 0, steps = 0, first, length, lowest = 0;
     for (unsigned c = 0; c < g->calls; c++)
         visit[c] = -1;
     while (placed[call])
         call++;
     while (visit[call] < 0) {
-        unsigned previous = g->calls;
         visit[call] = (int)steps;
         walk[steps++] = call;
-        for (struct edge *e = g->before[call]; e != NULL; e = e->next)
-            if (!placed[e->call] && e->call < previous)
-                previous = e->call;
-        call = previous;
+        call = previous[call];
     }
     first = (unsigned)visit[call];
     length = steps - first;
@@ -144,6 +149,7 @@ static unsigned show_cycle(const struct graph *g, const unsigned char *placed, u
             lowest = k;
     for (unsigned k = 0; k < length; k++)
         out[k] = (uint8_t)walk[first + (lowest + length - k) % length];
+    free(previous);
     free(visit);
     return length;
 }
@@ -167,7 +173,6 @@ uint32_t plain_order(const uint8_t *table, size_t table_len, uint8_t *order, siz
     free(list);
     free(placed);
     free_lists(g.after, g.calls);
-    free_lists(g.before, g.calls);
     free(g.waiting);
     return answer;
 }
