@@ -25,8 +25,7 @@ fn agree(lender: &mut Lender, random: &mut Random, text: &[u8], room: usize) -> 
 #[test]
 fn tables_written_out_and_read_back() {
     let (mut random, mut lender) = (Random::new(41), Lender::new());
-    for round in 0..30_000 {
-        let table = tables::small(&mut random);
+    for (round, table) in tables::corpus().enumerate() {
         let names = Names::random(&mut random, &table);
         let lines = if round % 4 == 0 { plain(&table, &names) } else { mixed(&mut random, &table, &names) };
         let (text, packed) = (bytes(&lines), table.packed());

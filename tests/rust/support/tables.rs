@@ -183,3 +183,13 @@ pub fn small(random: &mut Random) -> Table {
         acyclic(random, counts).0
     }
 }
+
+/// The sound tables that the tests of every function go through: all makes, and all sizes.
+pub fn corpus() -> impl Iterator<Item = Table> {
+    let makes = (0..30_000).map(|seed| sound(&mut Random::new(1_000_000 + seed)));
+    let sizes = (1..=32).flat_map(|units| (0..=96).map(move |ports| (units, ports)));
+    makes.chain(sizes.map(|(units, ports)| {
+        let counts = Counts { units, outputs: ports, inputs: ports, feeds: 128 };
+        any(&mut Random::new((100 * units + ports) as u64), counts)
+    }))
+}
