@@ -43,7 +43,12 @@ fn each_number_at_first_middle_and_last_places() {
         }
     }
     for number in 1..=7 {
-        assert!(reached[number].iter().all(|&count| count >= 100), "{} reached {:?}", number, reached);
+        assert!(
+            reached[number].iter().all(|&count| count >= 100),
+            "{} reached {:?}",
+            number,
+            reached
+        );
     }
 }
 

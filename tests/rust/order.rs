@@ -72,7 +72,8 @@ fn damaged_tables_leave_the_buffer() {
 fn every_buffer_length() {
     let (mut random, mut lender) = (Random::new(24), Lender::new());
     for round in 0..60 {
-        let table = if round % 20 == 0 { any(&mut random, GREATEST) } else { tables::sound(&mut random) };
+        let table =
+            if round % 20 == 0 { any(&mut random, GREATEST) } else { tables::sound(&mut random) };
         for room in 0..table.calls() + 4 {
             let answer = agree(&mut lender, &mut random, &table.packed(), room);
             assert_eq!(answer.number == 8, room < table.calls());

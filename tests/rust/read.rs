@@ -27,7 +27,8 @@ fn tables_written_out_and_read_back() {
     let (mut random, mut lender) = (Random::new(41), Lender::new());
     for (round, table) in tables::corpus().enumerate() {
         let names = Names::random(&mut random, &table);
-        let lines = if round % 4 == 0 { plain(&table, &names) } else { mixed(&mut random, &table, &names) };
+        let lines =
+            if round % 4 == 0 { plain(&table, &names) } else { mixed(&mut random, &table, &names) };
         let (text, packed) = (bytes(&lines), table.packed());
         let (answer, front) = read(&text, 644);
         assert_eq!((answer.number, &front), (0, &packed), "{}", shown(&text));
@@ -52,7 +53,12 @@ fn each_refusal_at_first_middle_and_last_lines() {
     }
     for number in (20..34).filter(|&number| number != 29) {
         let thirds = if number == 33 || number == 23 { 1 } else { 3 };
-        assert!(reached[number][..thirds].iter().all(|&count| count >= 50), "{} {:?}", number, reached);
+        assert!(
+            reached[number][..thirds].iter().all(|&count| count >= 50),
+            "{} {:?}",
+            number,
+            reached
+        );
     }
 }
 
@@ -151,7 +157,8 @@ fn fuzz_read() {
             0 => {
                 let letters = b"unitojefdcsm1\t\t\n\n_";
                 let length = random.below(60);
-                let tail: Vec<u8> = (0..length).map(|_| letters[random.below(letters.len())]).collect();
+                let tail: Vec<u8> =
+                    (0..length).map(|_| letters[random.below(letters.len())]).collect();
                 [&b"cosim\t1\n"[..], &tail, b"\n"].concat()
             }
             1 => mutated(&mut random, &bytes(&lines)),

@@ -65,7 +65,12 @@ fn near_misses_early_and_late() {
         }
     }
     for number in 11..=18 {
-        assert!(reached[number].iter().all(|&count| count >= 50), "{} reached {:?}", number, reached);
+        assert!(
+            reached[number].iter().all(|&count| count >= 50),
+            "{} reached {:?}",
+            number,
+            reached
+        );
     }
 }
 

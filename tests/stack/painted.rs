@@ -64,7 +64,8 @@ fn main() {
         reached[number] = true;
         deepest = deepest.max(bytes);
     }
-    let missing: Vec<usize> = inputs::numbers(EXPORT).into_iter().filter(|&n| !reached[n]).collect();
+    let missing: Vec<usize> =
+        inputs::numbers(EXPORT).into_iter().filter(|&n| !reached[n]).collect();
     assert!(missing.is_empty(), "{} never answered {:?}", EXPORT, missing);
     println!("{} {}", EXPORT, deepest);
 }

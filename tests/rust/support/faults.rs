@@ -56,8 +56,15 @@ pub fn faulty(random: &mut Random, lines: &Lines, number: usize, third: usize) -
             return Some(text);
         }
         23 => {
-            let first: [&[u8]; 7] =
-                [b"cosim", b"cosim\t2", b"cosim\t1\t", b"\tcosim\t1", b"", b"cosim\t11", b"cosin\t1"];
+            let first: [&[u8]; 7] = [
+                b"cosim",
+                b"cosim\t2",
+                b"cosim\t1\t",
+                b"\tcosim\t1",
+                b"",
+                b"cosim\t11",
+                b"cosin\t1",
+            ];
             lines[0] = vec![first[random.below(7)].to_vec()];
         }
         24 => {
@@ -89,7 +96,11 @@ pub fn faulty(random: &mut Random, lines: &Lines, number: usize, third: usize) -
         27 => {
             let kinds: [&[u8]; 4] = [b"out", b"in", b"feed", b"join"];
             let line = line_of(random, &lines, third, &kinds)?;
-            let names = if lines[line][0] == b"in" || lines[line][0] == b"out" { 1 } else { lines[line].len() - 1 };
+            let names = if lines[line][0] == b"in" || lines[line][0] == b"out" {
+                1
+            } else {
+                lines[line].len() - 1
+            };
             if random.percent(50) {
                 lines[line][1 + random.below(names)] = unknown();
             } else {
@@ -99,7 +110,8 @@ pub fn faulty(random: &mut Random, lines: &Lines, number: usize, third: usize) -
         }
         28 => {
             let line = line_of(random, &lines, third, &[b"in"])?;
-            let words: [&[u8]; 6] = [b"", b"delaye", b"delayedd", b"reactiv", b"unit", b"reactives"];
+            let words: [&[u8]; 6] =
+                [b"", b"delaye", b"delayedd", b"reactiv", b"unit", b"reactives"];
             lines[line][3] = words[random.below(6)].to_vec();
         }
         30 | 32 => {

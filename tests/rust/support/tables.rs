@@ -28,7 +28,12 @@ pub fn counts(random: &mut Random) -> Counts {
 }
 
 /// Adds feeds within one unit that are taken by the test, up to the count asked.
-fn add_feeds(random: &mut Random, table: &mut Table, most: usize, taken: impl Fn(usize, usize) -> bool) {
+fn add_feeds(
+    random: &mut Random,
+    table: &mut Table,
+    most: usize,
+    taken: impl Fn(usize, usize) -> bool,
+) {
     let mut pairs = Vec::new();
     for input in 0..table.inputs() {
         for output in 0..table.outputs() {
@@ -66,7 +71,8 @@ pub fn any(random: &mut Random, counts: Counts) -> Table {
 pub fn acyclic(random: &mut Random, counts: Counts) -> (Table, Vec<u8>) {
     const END: usize = 1 << 40;
     let step: Vec<usize> = (0..counts.units).map(|_| random.below(END)).collect();
-    let output_owner: Vec<usize> = (0..counts.outputs).map(|_| random.below(counts.units)).collect();
+    let output_owner: Vec<usize> =
+        (0..counts.outputs).map(|_| random.below(counts.units)).collect();
     let get: Vec<usize> =
         output_owner.iter().map(|&unit| random.between(step[unit] + 1, END + 1)).collect();
     let mut table = Table {

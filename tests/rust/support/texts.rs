@@ -16,9 +16,8 @@ pub fn bytes(lines: &Lines) -> Vec<u8> {
     text
 }
 
-const WORDS: [&[u8]; 10] = [
-    b"unit", b"out", b"in", b"feed", b"join", b"cosim", b"delayed", b"reactive", b"1", b"_",
-];
+const WORDS: [&[u8]; 10] =
+    [b"unit", b"out", b"in", b"feed", b"join", b"cosim", b"delayed", b"reactive", b"1", b"_"];
 const LETTERS: &[u8] = b"abcdefghijklmnopqrstuvwxyz0123456789_";
 
 /// A name of 1 to 16 bytes: a keyword, a short one that recurs, one of 16 bytes, or any.
@@ -96,17 +95,30 @@ pub fn by_kind(table: &Table, names: &Names) -> Vec<Lines> {
         vec![line(&[b"cosim", b"1"])],
         names.units.iter().map(|name| line(&[b"unit", name])).collect(),
         outputs.map(|o| line(&[b"out", unit(table.output_owner[o]), &names.outputs[o]])).collect(),
-        inputs.clone().map(|i| {
-            line(&[b"in", unit(table.input_owner[i]), &names.inputs[i], kind(i)])
-        }).collect(),
-        table.feeds.iter().map(|&(i, o)| {
-            line(&[b"feed", unit(table.input_owner[i]), &names.inputs[i], &names.outputs[o]])
-        }).collect(),
-        inputs.map(|i| {
-            let source = table.source[i];
-            let from = unit(table.output_owner[source]);
-            line(&[b"join", from, &names.outputs[source], unit(table.input_owner[i]), &names.inputs[i]])
-        }).collect(),
+        inputs
+            .clone()
+            .map(|i| line(&[b"in", unit(table.input_owner[i]), &names.inputs[i], kind(i)]))
+            .collect(),
+        table
+            .feeds
+            .iter()
+            .map(|&(i, o)| {
+                line(&[b"feed", unit(table.input_owner[i]), &names.inputs[i], &names.outputs[o]])
+            })
+            .collect(),
+        inputs
+            .map(|i| {
+                let source = table.source[i];
+                let from = unit(table.output_owner[source]);
+                line(&[
+                    b"join",
+                    from,
+                    &names.outputs[source],
+                    unit(table.input_owner[i]),
+                    &names.inputs[i],
+                ])
+            })
+            .collect(),
     ]
 }
 
@@ -126,7 +138,11 @@ pub fn mixed(random: &mut Random, table: &Table, names: &Names) -> Lines {
     while lines.len() < whole {
         let [_, units, outputs, inputs, feeds, _] = next;
         let declared = units + outputs + inputs == table.calls();
-        let kind = if declared || random.percent(100 - late) { random.between(4, 5) } else { random.between(1, 3) };
+        let kind = if declared || random.percent(100 - late) {
+            random.between(4, 5)
+        } else {
+            random.between(1, 3)
+        };
         let legal = match kind {
             1 => units < table.units,
             2 => outputs < table.outputs() && table.output_owner[outputs] < units,
