@@ -15,19 +15,19 @@ mapfile -t EXPORTS < <(sed 's/#.*//' "$ROOT/tests/exports.txt" | awk 'NF == 2 { 
 # The plain C versions: libplain.a under their own names, libnamed.a under the library's.
 build_plain() {
     local source name rename=()
-    for name in check order verdict read list names pack packed_length; do
+    for name in check order verdict read list line names pack packed_length; do
         rename+=(--redefine-sym "plain_$name=oorlichday_$name")
     done
     mkdir -p "$ROOT/target/tests/plain"
     (
         cd "$ROOT/target/tests/plain"
-        rm -f ./*.a
+        rm -f ./*.a ./*.o
         for source in "$ROOT"/bench/plain/*.c; do
             name=$(basename "$source" .c)
-            "$CC" -std=c11 -O2 -Wall -Wextra -Werror -c "$source" -o "$name.o"
-            "$OBJCOPY" "${rename[@]}" "$name.o" "named_$name.o"
+            "$CC" -std=c11 -O2 -Wall -Wextra -Werror -c "$source" -o "plain_$name.o"
+            "$OBJCOPY" "${rename[@]}" "plain_$name.o" "named_$name.o"
         done
-        "$AR" rcs libplain.a check.o order.o verdict.o read.o list.o
+        "$AR" rcs libplain.a plain_*.o
         "$AR" rcs libnamed.a named_*.o
     )
 }

@@ -7,8 +7,9 @@ mod support;
 
 use reference::{list::list, list::listing, Answer};
 use support::calls::{shown, Lender};
-use support::faults::{faulty, many_faults};
+use support::faults::faulty;
 use support::random::{fuzzing, Random};
+use support::several::many_faults;
 use support::tables::{self, chain, relabelled, ring};
 use support::texts::{bytes, mixed, plain, Names};
 

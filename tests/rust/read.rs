@@ -8,8 +8,9 @@ mod support;
 use reference::{table::check, text::read, Answer};
 use support::calls::{shown, Lender};
 use support::damage::mutated;
-use support::faults::{faulty, many_faults, one_more};
+use support::faults::faulty;
 use support::random::{fuzzing, Random};
+use support::several::{many_faults, one_more, one_more_feed};
 use support::tables::{self, any, chain, GREATEST};
 use support::texts::{bytes, mixed, plain, Names};
 
@@ -97,17 +98,6 @@ fn counts_at_their_bounds() {
         }
     }
     assert!(reached[29] >= 100, "{:?}", reached);
-}
-
-/// A feed that is not given yet, after the last of 128.
-fn one_more_feed(table: &reference::table::Table, names: &Names) -> Option<Vec<u8>> {
-    let mut more = table.clone();
-    let pairs = (0..table.inputs()).flat_map(|i| (0..table.outputs()).map(move |o| (i, o)));
-    let fits = |&(i, o): &(usize, usize)| {
-        table.input_owner[i] == table.output_owner[o] && !table.feeds.contains(&(i, o))
-    };
-    more.feeds.push(pairs.into_iter().find(fits)?);
-    (more.feeds.len() > 128).then(|| bytes(&plain(&more, names)))
 }
 
 #[test]
