@@ -26,7 +26,7 @@ fn cost(counter: &Counter, read: Read, text: &[u8]) -> u64 {
     counter.count(|| unsafe { read(text.as_ptr(), text.len(), table.as_mut_ptr(), 644) }.place).0
 }
 
-/// A text of the greatest size: all inputs reactive, all names of 16 bytes, all counts at their bounds.
+/// A text of the greatest size: counts at their bounds, inputs reactive, names of 16 bytes.
 fn greatest(random: &mut Random) -> Vec<u8> {
     let mut table = any(random, GREATEST);
     table.reactive = vec![true; 96];

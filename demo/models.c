@@ -24,8 +24,9 @@ static int32_t used_oxygen(int32_t minute)
 static void step_water(struct twin *t)
 {
     int32_t mixing = t->input[WATER_FLOW] / 4 + t->input[WATER_AIR];
-    int32_t gained = (SATURATED - t->oxygen) * mixing / 20000 + t->input[WATER_LIGHT] * 90 / 1000;
-    t->oxygen += gained - used_oxygen(t->minute[WATER]);
+    int32_t from_air = (SATURATED - t->oxygen) * mixing / 20000;
+    int32_t from_light = t->input[WATER_LIGHT] * 90 / 1000;
+    t->oxygen += from_air + from_light - used_oxygen(t->minute[WATER]);
     if (t->oxygen < 0)
         t->oxygen = 0;
     t->temperature += t->input[WATER_HEAT] / 12 - (t->temperature - ROOM_TEMPERATURE) / 300;
@@ -35,7 +36,8 @@ void model_step(struct twin *t, unsigned unit)
 {
     switch (unit) {
     case PUMP:
-        t->state[PUMP] += (pump_target(t->minute[PUMP], t->input[PUMP_OXYGEN]) - t->state[PUMP]) / 2;
+        t->state[PUMP] += (pump_target(t->minute[PUMP], t->input[PUMP_OXYGEN]) -
+                           t->state[PUMP]) / 2;
         break;
     case RETURN: /* the sump's level follows the flow */
         t->state[RETURN] += (t->input[RETURN_INFLOW] - t->state[RETURN]) / 8;

@@ -11,7 +11,8 @@ const uint8_t tank_table[] = {
     /* kind of each input: 0 delayed, 1 reactive */
     0, 0, 0, 1, 1, 1, 1, 1,
     /* source of each input */
-    WATER_OXYGEN, PUMP_FLOW, WATER_TEMPERATURE, RETURN_FLOW, LIGHT_LUX, RETURN_FLOW, HEATER_HEAT, SKIMMER_AIR,
+    WATER_OXYGEN, PUMP_FLOW, WATER_TEMPERATURE, RETURN_FLOW,
+    LIGHT_LUX, RETURN_FLOW, HEATER_HEAT, SKIMMER_AIR,
     /* feeds: what flows in is what flows out at once */
     RETURN_INFLOW, RETURN_FLOW,
     SKIMMER_FLOW, SKIMMER_AIR,
@@ -21,8 +22,8 @@ const char *const call_names[CALLS] = {
     "step light", "step pump", "step return", "step heater", "step skimmer", "step water",
     "get light lux", "get pump flow", "get return flow", "get heater heat", "get skimmer air",
     "get water temperature", "get water oxygen",
-    "set pump oxygen", "set return inflow", "set heater temperature", "set skimmer flow", "set water light",
-    "set water flow", "set water heat", "set water air",
+    "set pump oxygen", "set return inflow", "set heater temperature", "set skimmer flow",
+    "set water light", "set water flow", "set water heat", "set water air",
 };
 
 /* The source's value, by the table. */

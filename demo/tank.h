@@ -8,12 +8,13 @@
 enum { UNITS = 6, OUTPUTS = 7, INPUTS = 8, FEEDS = 2, CALLS = UNITS + OUTPUTS + INPUTS };
 
 enum unit { LIGHT, PUMP, RETURN, HEATER, SKIMMER, WATER };
-enum output { LIGHT_LUX, PUMP_FLOW, RETURN_FLOW, HEATER_HEAT, SKIMMER_AIR, WATER_TEMPERATURE, WATER_OXYGEN };
-enum input { PUMP_OXYGEN, RETURN_INFLOW, HEATER_TEMPERATURE, SKIMMER_FLOW, WATER_LIGHT, WATER_FLOW, WATER_HEAT,
-             WATER_AIR };
+enum output { LIGHT_LUX, PUMP_FLOW, RETURN_FLOW, HEATER_HEAT, SKIMMER_AIR,
+              WATER_TEMPERATURE, WATER_OXYGEN };
+enum input { PUMP_OXYGEN, RETURN_INFLOW, HEATER_TEMPERATURE, SKIMMER_FLOW,
+             WATER_LIGHT, WATER_FLOW, WATER_HEAT, WATER_AIR };
 
-/* Every unit's state, every port's value: light in parts of a thousand, flow in litres an hour, heat in
-   watts, temperature in thousandths of a degree, oxygen in micrograms a litre. */
+/* Every unit's state and every port's value: light in parts of a thousand, flow in litres an hour,
+   heat in watts, temperature in thousandths of a degree, oxygen in micrograms a litre. */
 struct twin {
     int32_t minute[UNITS];
     int32_t state[UNITS];

@@ -1,16 +1,26 @@
 # Where the archives under test are, and what they export: sourced after machine.sh.
-# Sets KIND (proved, or plain for the C versions of bench/plain), ARCHIVES, BUILD, and the list EXPORTS.
+# Sets KIND (proved, or plain for bench/plain's C versions), ARCHIVES (a folder), BUILD,
+# and the lists EXPORTS and ARCHIVE_NAMES.
 
 KIND=${1:-proved}
 BUILD=$ROOT/target/tests/$KIND
 mkdir -p "$BUILD"
 
-# The archive that holds an export, by tests/exports.txt.
-archive_of() {
-    sed 's/#.*//' "$ROOT/tests/exports.txt" | awk -v name="$1" '$2 == name { print $1 }'
+# The lines of tests/exports.txt that are switched on: archive, name.
+listed() {
+    grep -v '^#' "$ROOT/tests/exports.txt"
 }
 
-mapfile -t EXPORTS < <(sed 's/#.*//' "$ROOT/tests/exports.txt" | awk 'NF == 2 { print $2 }')
+archive_of() {
+    listed | awk -v name="$1" '$2 == name { print $1 }'
+}
+
+exports_of() {
+    listed | awk -v archive="$1" '$1 == archive { print "oorlichday_" $2 }' | sort
+}
+
+mapfile -t EXPORTS < <(listed | awk '{ print $2 }')
+mapfile -t ARCHIVE_NAMES < <(listed | awk '{ print $1 }' | sort -u)
 
 # The plain C versions: libplain.a under their own names, libnamed.a under the library's.
 build_plain() {

@@ -1,4 +1,4 @@
-//! The hunt for the dearest input: change one thing, keep what is not cheaper, begin again elsewhere.
+//! The hunt for the dearest input: change one thing, keep what is not cheaper, begin again.
 
 use crate::reference::table::{sound, Table};
 use crate::support_of_tests::random::Random;

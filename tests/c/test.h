@@ -82,7 +82,7 @@ static inline uint32_t some_number(void)
     return (uint32_t)(state >> 16);
 }
 
-/* The greatest table: every unit a ring of feeds, 644 bytes, 224 calls; acyclic if all is delayed. */
+/* A table of the greatest counts, 644 bytes and 224 calls; acyclic if its inputs are delayed. */
 static inline size_t greatest(uint8_t *table, int reactive)
 {
     uint8_t *at = table;
