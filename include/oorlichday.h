@@ -25,7 +25,7 @@ enum oorlichday_number {
     OORLICHDAY_FEED_TWICE = 7,        /* feed pair given before */
     OORLICHDAY_ROOM = 8,              /* order buffer under N bytes */
     OORLICHDAY_CYCLE = 9,             /* cycle; its length is the place */
-    OORLICHDAY_NOTHING_READY = 10,    /* nothing ready and no cycle found; never for a sound table */
+    OORLICHDAY_NOTHING_READY = 10,    /* nothing ready, no cycle found; never for a sound table */
     OORLICHDAY_NO_CALL = 11,          /* no such call */
     OORLICHDAY_DONE_BEFORE = 12,      /* call done before */
     OORLICHDAY_DELAYED_SET = 13,      /* step: a delayed input is already set */

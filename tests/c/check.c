@@ -48,7 +48,7 @@ static void lengths(int side)
     EXPECT(whole == OORLICHDAY_TABLE_MAX);
     for (size_t length = 0; length <= sizeof table; length++)
         EXPECT(check(table, length, side) == (length == whole ? 224u : 256u));
-    EXPECT(oorlichday_check(first, 0) == 256);
+    EXPECT(oorlichday_check(nowhere, 0) == 256);
 }
 
 static void any_bytes(int side)

@@ -58,6 +58,8 @@ static void small(int side)
 {
     static const uint8_t a[] = { 2, 2, 2, 0, 0, 1, 0, 1, 0, 1, 1, 0 };
     static const uint8_t both_fed[] = { 2, 2, 2, 2, 0, 1, 0, 1, 0, 0, 1, 0, 0, 0, 1, 1 };
+    EXPECT(oorlichday_order(nowhere, 0, nowhere, 0) == 256);
+    EXPECT(oorlichday_order(a, sizeof a, nowhere, 0) == 256 * 8);
     rooms(a, sizeof a, 6, (uint8_t[]){ 0, 2, 5, 1, 3, 4 }, 6, side);
     rooms(both_fed, sizeof both_fed, 256 * 9 + 4, (uint8_t[]){ 2, 5, 3, 4 }, 6, side);
 }

@@ -64,6 +64,8 @@ static void sizes(int side)
     EXPECT(reads(long_text, 24577, 644, 20, 0, NULL, 0, side));
     long_text[24575] = '\n';
     EXPECT(reads(long_text, 24576, 644, 23, 1, NULL, 0, side));
+    EXPECT(oorlichday_read(nowhere, 0, nowhere, 0).number == 20);
+    EXPECT(oorlichday_read((const uint8_t *)text, sizeof text - 1, nowhere, 0).number == 34);
     for (size_t room = 0; room < sizeof a + 3; room++)
         EXPECT(room < sizeof a ? reads(text, sizeof text - 1, room, 34, 0, NULL, 0, side)
                                : reads(text, sizeof text - 1, room, 0, 12, a, 12, side));

@@ -72,6 +72,9 @@ static inline int canaries(const uint8_t *pages, const uint8_t *buffer, size_t w
     return 1;
 }
 
+/* What an empty buffer may come with: a pointer to nothing that is not null. */
+static uint8_t *const nowhere = (uint8_t *)1;
+
 /* A number that looks random and is the same in every run. */
 static inline uint32_t some_number(void)
 {

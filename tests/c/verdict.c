@@ -42,6 +42,8 @@ static void examples(int side)
         { a, 11, 0, 1, 0, { 0 } },
         { a, 0, 0, 1, 0, { 0 } },
     };
+    EXPECT(oorlichday_verdict(nowhere, 0, nowhere, 0) == 256);
+    EXPECT(oorlichday_verdict(a, sizeof a, nowhere, 0) == 256 * 18);
     for (size_t k = 0; k < sizeof cases / sizeof cases[0]; k++)
         EXPECT(verdict(cases[k].table, cases[k].length, cases[k].calls, cases[k].count, side) ==
                256 * cases[k].number + cases[k].place);
