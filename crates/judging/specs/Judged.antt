@@ -16,7 +16,7 @@ use Rattle.table.specs.Packed.{shapeOf}
 use Rattle.table.specs.Check.{refusal}
 use Rattle.judging.specs.Conditions.{refusalAt}
 use Rattle.judging.specs.Passes.{after, Meets, Passes}
-use Rattle.judging.specs.Verdict.{answer, verdictFrom, verdictOf}
+use Rattle.judging.specs.Verdict.{answer, atEnd, verdictFrom, verdictOf}
 use Rattle.judging.specs.Met.{meets-iff, meets-call}
 
 same : (a b : ℕ) → a ≡ b → eqb a b ≡ true
@@ -29,11 +29,11 @@ module _ (s : Shape) where
   -- ---- the verdict by one call
 
   pub verdict-end : (done : ℕ → Bool) (k : ℕ) → k ≡ total s → verdictFrom s done [] k ≡ answer 0 k
-  unfolding verdictFrom
+  unfolding verdictFrom atEnd
   verdict-end done k e = rw (same k (total s) e)
 
   pub verdict-short : (done : ℕ → Bool) (k : ℕ) → k ≢ total s → verdictFrom s done [] k ≡ answer 18 k
-  unfolding verdictFrom
+  unfolding verdictFrom atEnd
   verdict-short done k e = rw (other k (total s) e)
 
   pub verdict-on : (done : ℕ → Bool) (c : ℕ) (l : List ℕ) (k : ℕ) → refusalAt s done c ≡ 0

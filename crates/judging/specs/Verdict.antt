@@ -15,10 +15,13 @@ abbrev pub answer : ℕ → ℕ → Answer
 answer n k = record { number = n; place = k }
 
 module _ (s : Shape) where
-  -- the calls from place k on, with k of them taken: the first refusal with its place;
-  -- at the end 18 with the order's length, or N where N calls were taken
+  -- the order has ended with k calls taken: passing returns N, else 18 gives the order's length as place
+  unfoldable pub atEnd : ℕ → Answer
+  atEnd k = answer (cond (eqb k (total s)) 0 18) k
+
+  -- the calls from place k on, with k of them taken: the first refusal with its place, or the end
   unfoldable pub verdictFrom : (ℕ → Bool) → List ℕ → ℕ → Answer
-  verdictFrom done [] k = answer (cond (eqb k (total s)) 0 18) k
+  verdictFrom done [] k = atEnd k
   verdictFrom done (c ∷ l) k =
       cond (eqb (refusalAt s done c) 0) (verdictFrom (add c done) l (suc k)) (answer (refusalAt s done c) k)
 
