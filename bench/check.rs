@@ -38,7 +38,7 @@ fn main() {
         row(member.family, &format!("N = {}", member.table.calls()), proved, plain);
     }
     row(
-        "worst found",
+        &format!("worst found, limit {}", LIMIT),
         "each its own",
         worst(4_000, oorlichday_check).0,
         worst(4_000, plain_check).0,

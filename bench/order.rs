@@ -42,7 +42,7 @@ fn main() {
         row(member.family, &format!("N = {}", member.table.calls()), proved, plain);
     }
     row(
-        "worst found",
+        &format!("worst found, limit {}", LIMIT),
         "each its own",
         worst(4_000, oorlichday_order).0,
         worst(4_000, plain_order).0,

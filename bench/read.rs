@@ -79,7 +79,12 @@ fn main() {
         (cost(&counter, oorlichday_read, &text), cost(&counter, plain_read, &text));
     row("names of 16 bytes", &format!("{} bytes", text.len()), proved, plain);
     let (proved, plain) = (worst(400, oorlichday_read), worst(400, plain_read));
-    row("greatest text, worst found", &format!("{} bytes", GREATEST_TEXT), proved, plain);
+    row(
+        "greatest text, worst found, limit 100 for each byte",
+        &format!("{} bytes", GREATEST_TEXT),
+        proved,
+        plain,
+    );
     let of_a_byte = |count: u64| count as f64 / GREATEST_TEXT as f64;
     println!(
         "\nFor each byte of it: {:.1} proved, {:.1} plain.",

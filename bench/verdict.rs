@@ -68,7 +68,7 @@ fn main() {
         }
     }
     row(
-        "worst found",
+        &format!("worst found, limit {}", LIMIT),
         "each its own",
         worst(4_000, oorlichday_verdict).0,
         worst(4_000, plain_verdict).0,
