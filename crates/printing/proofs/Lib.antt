@@ -1,2 +1,4 @@
 -- Laws of the printed lines.
 mod Fielded
+mod Declares
+mod Listing
