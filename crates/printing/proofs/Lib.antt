@@ -2,3 +2,4 @@
 mod Fielded
 mod Declares
 mod Listing
+mod Whole

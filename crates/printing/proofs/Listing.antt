@@ -35,8 +35,13 @@ module _ {t cs : List ℕ} {room left i : ℕ} (g : Fitting t cs room left i) wh
   module _ (n : ℕ) (h : i < length cs) (e : n ≡ length (entry t i (getD cs i 0))) where
     next : room + (n + length (entries t (i + 1) (drop (i + 1) cs))) ≡ left + length (entries t 0 cs)
     next =
-        omega (arith, g .rest, e, ap length (one-entry t cs i h),
-            length-append (entry t i (getD cs i 0)) (entries t (i + 1) (drop (i + 1) cs)))
+        omega (
+          arith,
+          g .rest,
+          e,
+          ap length (one-entry t cs i h),
+          length-append (entry t i (getD cs i 0)) (entries t (i + 1) (drop (i + 1) cs)),
+        )
 
     pub fitting-on : n ≤ left → Fitting t cs room (left - n) (i + 1)
     fitting-on f = record { passed = omega arith; rest = omega (arith, next) }
@@ -73,9 +78,15 @@ module _ {t cs out₀ : List ℕ} {at : ℕ} {out : List ℕ} {end i : ℕ} (g :
     pub writing-room :
         at + length (entries t 0 cs) ≤ length out₀ → end + length (entry t i (getD cs i 0)) ≤ length out
     writing-room room =
-        omega (arith, room, writing-long, g .wrote .place, ap length more,
-            length-append (g .done ++ entry t i (getD cs i 0)) (entries t (i + 1) (drop (i + 1) cs)),
-            length-append (g .done) (entry t i (getD cs i 0)))
+        omega (
+          arith,
+          room,
+          writing-long,
+          g .wrote .place,
+          ap length more,
+          length-append (g .done ++ entry t i (getD cs i 0)) (entries t (i + 1) (drop (i + 1) cs)),
+          length-append (g .done) (entry t i (getD cs i 0)),
+        )
 
     pub writing-on :
         {after : List ℕ} {k : ℕ} → Wrote out end (entry t i (getD cs i 0)) after k →

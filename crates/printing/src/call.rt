@@ -1,8 +1,8 @@
 // The line that declares a call, and what is printed of it.
 use crate::line::entry_length;
 use crate::line::put_entry;
-use calls::call_in;
 use calls::Call;
+use calls::call_in;
 use fields::fields_at;
 ghost use mathlib.Core.Path.{_≡_};
 ghost use Prim.Native.Nat.{_+_, _<_, _≤_};
@@ -23,9 +23,18 @@ pub fn line_at(units: &[u16], outputs: &[u16], inputs: &[u16], c: usize) -> Line
 {
     let call = call_in(units.len(), outputs.len(), inputs.len(), c);
     match call {
-        Call::Step(u) => Line { kind: 0, place: units[u] },
-        Call::Get(y) => Line { kind: 1, place: outputs[y] },
-        Call::Set(x) => Line { kind: 2, place: inputs[x] },
+        Call::Step(u) => Line {
+            kind: 0,
+            place: units[u],
+        },
+        Call::Get(y) => Line {
+            kind: 1,
+            place: outputs[y],
+        },
+        Call::Set(x) => Line {
+            kind: 2,
+            place: inputs[x],
+        },
         Call::NoCall => Line { kind: 3, place: 0 },
     }
 }

@@ -11,7 +11,14 @@ ghost use Rattle.printing.specs.Entries.{entries};
 ghost use Rattle.printing.specs.Indexed.{Indexed};
 
 // Do the lines of these calls fit into so many bytes?
-pub fn entries_fit(text: &[u8], units: &[u16], outputs: &[u16], inputs: &[u16], calls: &[u8], room: usize) -> bool
+pub fn entries_fit(
+    text: &[u8],
+    units: &[u16],
+    outputs: &[u16],
+    inputs: &[u16],
+    calls: &[u8],
+    room: usize,
+) -> bool
     requires { ⌜ Indexed (now text) (now units) (now outputs) (now inputs) ⌝ }
     ensures { λ r. ⌜ r ≡ leb (length (entries (now (text .entry)) 0 (now (calls .entry)))) room ⌝ }
 {
@@ -30,7 +37,15 @@ pub fn entries_fit(text: &[u8], units: &[u16], outputs: &[u16], inputs: &[u16], 
 }
 
 // Puts the lines of these calls, and answers the place behind them.
-pub fn put_entries(text: &[u8], units: &[u16], outputs: &[u16], inputs: &[u16], calls: &[u8], out: &mut [u8], at: usize) -> usize
+pub fn put_entries(
+    text: &[u8],
+    units: &[u16],
+    outputs: &[u16],
+    inputs: &[u16],
+    calls: &[u8],
+    out: &mut [u8],
+    at: usize,
+) -> usize
     requires { ⌜ Indexed (now text) (now units) (now outputs) (now inputs) ⌝ }
     requires { ⌜ at + length (entries (now text) 0 (now calls)) ≤ length (now out) ⌝ }
     ensures { λ r. ⌜ Wrote (now (out .entry)) at (entries (now (text .entry)) 0 (now (calls .entry))) (now (out .exit)) r ⌝ }

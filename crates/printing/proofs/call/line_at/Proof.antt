@@ -1,74 +1,57 @@
+-- Each arm of the match is a range of call numbers.
 use borrow.Author.Needs.{needs}
 use Rattle.printing.proofs.call.line_at.Statement.{statement}
 use Rattle.printing.proofs.call.line_at.Tie as tie
-use Rattle.printing.proofs.call.line_at.Reads as reads
-use Rattle.printing.proofs.call.line_at.Lts as lts
-use Rattle.calls.proofs.call_in.Reads as call-in-reads
 use mathlib.Core.Path.{sym, _∙_}
 use native.Mathlib.Omega.{arith}
 use Rattle.printing.specs.Places.{lineFor}
 use Rattle.printing.proofs.Declares.{step-arm, get-arm, set-arm, line-of}
 
--- src/call.rt:24:9
 call-in-requires : tie.Need-call-in-requires
 call-in-requires c κs = search needs
 
--- src/call.rt:26:20
 enum-known-call : tie.Need-enum-known-call
 enum-known-call c = search needs
 
--- src/call.rt:26:49
 mul-t13 : tie.Need-mul-t13
 mul-t13 c = omega (arith, step-arm (c .before .before .before .before .before .before .before .args .units .now) (c .before .before .before .before .before .before .before .args .outputs .now) (c .before .before .before .before .before .before .before .args .inputs .now) (c .before .before .before .before .before .before .before .args .c) _ (sym (c .before .before .before .call-in .ensures) ∙ c .before .call .given .1))
 
--- src/call.rt:26:49
 shared-slice-read-t15 : tie.Need-shared-slice-read-t15
 shared-slice-read-t15 c = step-arm (c .before .before .before .before .before .before .before .before .args .units .now) (c .before .before .before .before .before .before .before .before .args .outputs .now) (c .before .before .before .before .before .before .before .before .args .inputs .now) (c .before .before .before .before .before .before .before .before .args .c) _ (sym (c .before .before .before .before .call-in .ensures) ∙ c .before .before .call .given .1)
 
--- src/call.rt:27:19
 enum-known-call-2 : tie.Need-enum-known-call-2
 enum-known-call-2 c = search needs
 
--- src/call.rt:27:48
 mul-t16 : tie.Need-mul-t16
 mul-t16 c = omega (arith, get-arm (c .before .before .before .before .before .before .before .args .units .now) (c .before .before .before .before .before .before .before .args .outputs .now) (c .before .before .before .before .before .before .before .args .inputs .now) (c .before .before .before .before .before .before .before .args .c) _ (sym (c .before .before .before .call-in .ensures) ∙ c .before .call2 .given .1))
 
--- src/call.rt:27:48
 shared-slice-read-t18 : tie.Need-shared-slice-read-t18
 shared-slice-read-t18 c = get-arm (c .before .before .before .before .before .before .before .before .args .units .now) (c .before .before .before .before .before .before .before .before .args .outputs .now) (c .before .before .before .before .before .before .before .before .args .inputs .now) (c .before .before .before .before .before .before .before .before .args .c) _ (sym (c .before .before .before .before .call-in .ensures) ∙ c .before .before .call2 .given .1)
 
--- src/call.rt:28:19
 enum-known-call-3 : tie.Need-enum-known-call-3
 enum-known-call-3 c = search needs
 
--- src/call.rt:28:48
 mul-t19 : tie.Need-mul-t19
 mul-t19 c = omega (arith, set-arm (c .before .before .before .before .before .before .before .args .units .now) (c .before .before .before .before .before .before .before .args .outputs .now) (c .before .before .before .before .before .before .before .args .inputs .now) (c .before .before .before .before .before .before .before .args .c) _ (sym (c .before .before .before .call-in .ensures) ∙ c .before .call3 .given .1))
 
--- src/call.rt:28:48
 shared-slice-read-t21 : tie.Need-shared-slice-read-t21
 shared-slice-read-t21 c = set-arm (c .before .before .before .before .before .before .before .before .args .units .now) (c .before .before .before .before .before .before .before .before .args .outputs .now) (c .before .before .before .before .before .before .before .before .args .inputs .now) (c .before .before .before .before .before .before .before .before .args .c) _ (sym (c .before .before .before .before .call-in .ensures) ∙ c .before .before .call3 .given .1)
 
--- src/call.rt:29:25
 enum-told : tie.Need-enum-told
 enum-told c = search needs
 
--- src/call.rt:21:1
 returns : tie.Need-returns
 unfolding lineFor
 returns c = line-of (c .before .before .before .before .before .before .before .before .args .units .now) (c .before .before .before .before .before .before .before .before .args .outputs .now) (c .before .before .before .before .before .before .before .before .args .inputs .now) (c .before .before .before .before .before .before .before .before .args .c) _ (sym (c .before .before .before .before .call-in .ensures) ∙ c .before .before .call .given .1)
 
--- src/call.rt:21:1
 returns-2 : tie.Need-returns-2
 unfolding lineFor
 returns-2 c = line-of (c .before .before .before .before .before .before .before .before .args .units .now) (c .before .before .before .before .before .before .before .before .args .outputs .now) (c .before .before .before .before .before .before .before .before .args .inputs .now) (c .before .before .before .before .before .before .before .before .args .c) _ (sym (c .before .before .before .before .call-in .ensures) ∙ c .before .before .call2 .given .1)
 
--- src/call.rt:21:1
 returns-3 : tie.Need-returns-3
 unfolding lineFor
 returns-3 c = line-of (c .before .before .before .before .before .before .before .before .args .units .now) (c .before .before .before .before .before .before .before .before .args .outputs .now) (c .before .before .before .before .before .before .before .before .args .inputs .now) (c .before .before .before .before .before .before .before .before .args .c) _ (sym (c .before .before .before .before .call-in .ensures) ∙ c .before .before .call3 .given .1)
 
--- src/call.rt:21:1
 returns-4 : tie.Need-returns-4
 unfolding lineFor
 returns-4 c = line-of (c .before .before .before .before .before .before .args .units .now) (c .before .before .before .before .before .before .args .outputs .now) (c .before .before .before .before .before .before .args .inputs .now) (c .before .before .before .before .before .before .args .c) _ (sym (c .before .before .call-in .ensures) ∙ c .enum-told .given .1)

@@ -1,80 +1,60 @@
+-- What is printed of a line goes by its kind.
 use borrow.Author.Needs.{needs}
 use Rattle.printing.proofs.call.put_text.Statement.{statement}
 use Rattle.printing.proofs.call.put_text.Tie as tie
-use Rattle.printing.proofs.call.put_text.Reads as reads
-use Rattle.printing.proofs.call.put_text.Lts as lts
-use Rattle.printing.proofs.call.field.Reads as field-reads
-use Rattle.printing.proofs.line.put_entry.Reads as put-entry-reads
 use mathlib.Core.List.{[]}
 use native.Mathlib.Omega.{arith}
 use Rattle.pen.specs.Chain.{wrote-long}
 use Rattle.printing.proofs.Declares.{text-step, text-get, text-set, nothing-put, same-put, same-room}
 
--- src/call.rt:71:9
 returns : tie.Need-returns
 returns c = nothing-put _ _ _ _ _ (c .if1 .taken) (c .before .before .before .before .pre .1)
 
--- src/call.rt:73:13
 cast-a : tie.Need-cast-a
 cast-a c = search needs
 
--- src/call.rt:74:9
 field-requires : tie.Need-field-requires
 field-requires c κs = (c .before .before .before .before .before .pre .0 (c .before .if1 .left), omega arith)
 
--- src/call.rt:76:38
 slice-aggregate-put-entry : tie.Need-slice-aggregate-put-entry
 slice-aggregate-put-entry c = search needs
 
--- src/call.rt:76:53
 slice-aggregate-put-entry-2 : tie.Need-slice-aggregate-put-entry-2
 slice-aggregate-put-entry-2 c = search needs
 
--- src/call.rt:76:9
 put-entry-requires : tie.Need-put-entry-requires
 put-entry-requires c κs = same-room _ _ (text-step (c .before .before .before .before .before .before .before .before .before .before .before .args .text .now) (c .before .before .before .before .before .before .before .before .before .before .before .args .k) (c .before .before .before .before .before .before .before .before .before .before .before .args .line) _ [] (c .before .before .before .before .before .field .ensures) (c .before .before .before .if2 .taken)) (c .before .before .before .before .before .before .before .before .before .before .before .pre .1)
 
--- src/call.rt:76:9
 same-length : tie.Need-same-length
 same-length c = wrote-long (c .before .before .put-entry .ensures)
 
--- src/call.rt:76:9
 returns-2 : tie.Need-returns-2
 returns-2 c = same-put (c .before .before .put-entry .ensures) (text-step (c .before .before .before .before .before .before .before .before .before .before .before .before .before .before .args .text .now) (c .before .before .before .before .before .before .before .before .before .before .before .before .before .before .args .k) (c .before .before .before .before .before .before .before .before .before .before .before .before .before .before .args .line) _ [] (c .before .before .before .before .before .before .before .before .field .ensures) (c .before .before .before .before .before .before .if2 .taken))
 
--- src/call.rt:78:9
 field-requires-2 : tie.Need-field-requires-2
 field-requires-2 c κs = (c .before .before .before .before .before .before .before .before .pre .0 (c .before .before .before .before .if1 .left), omega arith)
 
--- src/call.rt:80:38
 slice-aggregate-put-entry-3 : tie.Need-slice-aggregate-put-entry-3
 slice-aggregate-put-entry-3 c = search needs
 
--- src/call.rt:80:9
 put-entry-requires-2 : tie.Need-put-entry-requires-2
 put-entry-requires-2 c κs = same-room _ _ (text-get (c .before .before .before .before .before .before .before .before .before .before .before .before .before .args .text .now) (c .before .before .before .before .before .before .before .before .before .before .before .before .before .args .k) (c .before .before .before .before .before .before .before .before .before .before .before .before .before .args .line) _ _ (c .before .before .before .before .before .before .before .field .ensures) (c .before .before .before .before .field2 .ensures) (c .before .before .before .before .before .if2 .left) (c .before .before .if3 .taken)) (c .before .before .before .before .before .before .before .before .before .before .before .before .before .pre .1)
 
--- src/call.rt:80:9
 same-length-2 : tie.Need-same-length-2
 same-length-2 c = wrote-long (c .before .before .put-entry2 .ensures)
 
--- src/call.rt:80:9
 returns-3 : tie.Need-returns-3
 returns-3 c = same-put (c .before .before .put-entry2 .ensures) (text-get (c .before .before .before .before .before .before .before .before .before .before .before .before .before .before .before .before .args .text .now) (c .before .before .before .before .before .before .before .before .before .before .before .before .before .before .before .before .args .k) (c .before .before .before .before .before .before .before .before .before .before .before .before .before .before .before .before .args .line) _ _ (c .before .before .before .before .before .before .before .before .before .before .field .ensures) (c .before .before .before .before .before .before .before .field2 .ensures) (c .before .before .before .before .before .before .before .before .if2 .left) (c .before .before .before .before .before .if3 .taken))
 
--- src/call.rt:82:27
 slice-aggregate-put-entry-4 : tie.Need-slice-aggregate-put-entry-4
 slice-aggregate-put-entry-4 c = search needs
 
--- src/call.rt:82:5
 put-entry-requires-3 : tie.Need-put-entry-requires-3
 put-entry-requires-3 c κs = same-room _ _ (text-set (c .before .before .before .before .before .before .before .before .before .before .before .before .before .args .text .now) (c .before .before .before .before .before .before .before .before .before .before .before .before .before .args .k) (c .before .before .before .before .before .before .before .before .before .before .before .before .before .args .line) _ _ (c .before .before .before .before .before .before .before .field .ensures) (c .before .before .before .before .field2 .ensures) (c .before .before .before .before .before .if2 .left) (c .before .before .if3 .left) (c .before .before .before .before .before .before .before .before .before .if1 .left)) (c .before .before .before .before .before .before .before .before .before .before .before .before .before .pre .1)
 
--- src/call.rt:65:1
 same-length-3 : tie.Need-same-length-3
 same-length-3 c = wrote-long (c .before .before .put-entry3 .ensures)
 
--- src/call.rt:65:1
 returns-4 : tie.Need-returns-4
 returns-4 c = same-put (c .before .before .put-entry3 .ensures) (text-set (c .before .before .before .before .before .before .before .before .before .before .before .before .before .before .before .before .args .text .now) (c .before .before .before .before .before .before .before .before .before .before .before .before .before .before .before .before .args .k) (c .before .before .before .before .before .before .before .before .before .before .before .before .before .before .before .before .args .line) _ _ (c .before .before .before .before .before .before .before .before .before .before .field .ensures) (c .before .before .before .before .before .before .before .field2 .ensures) (c .before .before .before .before .before .before .before .before .if2 .left) (c .before .before .before .before .before .if3 .left) (c .before .before .before .before .before .before .before .before .before .before .before .before .if1 .left))
 

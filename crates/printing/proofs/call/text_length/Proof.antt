@@ -1,69 +1,52 @@
+-- What is printed of a line goes by its kind; a name is no longer than the text.
 use borrow.Author.Needs.{needs}
 use Rattle.printing.proofs.call.text_length.Statement.{statement}
 use Rattle.printing.proofs.call.text_length.Tie as tie
-use Rattle.printing.proofs.call.text_length.Reads as reads
-use Rattle.printing.proofs.call.text_length.Lts as lts
-use Rattle.printing.proofs.call.field.Reads as field-reads
-use Rattle.printing.proofs.line.entry_length.Reads as entry-length-reads
 use mathlib.Core.List.{[]}
 use mathlib.Core.Path.{sym, ap, _∙_}
 use lib.ListN.{length}
 use native.Mathlib.Omega.{arith}
 use Rattle.printing.proofs.Declares.{text-none, text-step, text-get, text-set, word-short}
 
--- src/call.rt:50:9
 returns : tie.Need-returns
 returns c = ap length (sym (text-none _ _ _ (c .if1 .taken)))
 
--- src/call.rt:52:13
 cast-a : tie.Need-cast-a
 cast-a c = search needs
 
--- src/call.rt:53:9
 field-requires : tie.Need-field-requires
 field-requires c κs = (c .before .before .before .before .pre (c .before .if1 .left), omega arith)
 
--- src/call.rt:55:32
 slice-aggregate-entry-length : tie.Need-slice-aggregate-entry-length
 slice-aggregate-entry-length c = search needs
 
--- src/call.rt:55:47
 slice-aggregate-entry-length-2 : tie.Need-slice-aggregate-entry-length-2
 slice-aggregate-entry-length-2 c = search needs
 
--- src/call.rt:55:9
 entry-length-requires : tie.Need-entry-length-requires
 entry-length-requires c κs = (omega arith, rw (c .before .before .before .before .field .ensures) (word-short _ _ _ (c .before .before .before .before .before .before .before .before .before .pre (c .before .before .before .before .before .before .if1 .left)) (omega arith)), omega arith)
 
--- src/call.rt:55:9
 returns-2 : tie.Need-returns-2
 returns-2 c = c .entry-length .ensures ∙ ap length (text-step _ _ _ _ [] (c .before .before .before .before .before .field .ensures) (c .before .before .before .if2 .taken))
 
--- src/call.rt:57:9
 field-requires-2 : tie.Need-field-requires-2
 field-requires-2 c κs = (c .before .before .before .before .before .before .before .pre (c .before .before .before .before .if1 .left), omega arith)
 
--- src/call.rt:59:32
 slice-aggregate-entry-length-3 : tie.Need-slice-aggregate-entry-length-3
 slice-aggregate-entry-length-3 c = search needs
 
--- src/call.rt:59:9
 entry-length-requires-2 : tie.Need-entry-length-requires-2
 entry-length-requires-2 c κs = (omega arith, rw (c .before .before .before .before .before .before .field .ensures) (word-short _ _ _ (c .before .before .before .before .before .before .before .before .before .before .before .pre (c .before .before .before .before .before .before .before .before .if1 .left)) (omega arith)), rw (c .before .before .before .field2 .ensures) (word-short _ _ _ (c .before .before .before .before .before .before .before .before .before .before .before .pre (c .before .before .before .before .before .before .before .before .if1 .left)) (omega arith)))
 
--- src/call.rt:59:9
 returns-3 : tie.Need-returns-3
 returns-3 c = c .entry-length2 .ensures ∙ ap length (text-get _ _ _ _ _ (c .before .before .before .before .before .before .before .field .ensures) (c .before .before .before .before .field2 .ensures) (c .before .before .before .before .before .if2 .left) (c .before .before .if3 .taken))
 
--- src/call.rt:61:21
 slice-aggregate-entry-length-4 : tie.Need-slice-aggregate-entry-length-4
 slice-aggregate-entry-length-4 c = search needs
 
--- src/call.rt:61:5
 entry-length-requires-3 : tie.Need-entry-length-requires-3
 entry-length-requires-3 c κs = (omega arith, rw (c .before .before .before .before .before .before .field .ensures) (word-short _ _ _ (c .before .before .before .before .before .before .before .before .before .before .before .pre (c .before .before .before .before .before .before .before .before .if1 .left)) (omega arith)), rw (c .before .before .before .field2 .ensures) (word-short _ _ _ (c .before .before .before .before .before .before .before .before .before .before .before .pre (c .before .before .before .before .before .before .before .before .if1 .left)) (omega arith)))
 
--- src/call.rt:45:1
 returns-4 : tie.Need-returns-4
 returns-4 c = c .entry-length3 .ensures ∙ ap length (text-set _ _ _ _ _ (c .before .before .before .before .before .before .before .field .ensures) (c .before .before .before .before .field2 .ensures) (c .before .before .before .before .before .if2 .left) (c .before .before .if3 .left) (c .before .before .before .before .before .before .before .before .before .if1 .left))
 

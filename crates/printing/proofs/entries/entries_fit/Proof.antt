@@ -1,9 +1,6 @@
+-- The loop keeps what is left of the room beside what is still to come (`Fitting`).
 use Rattle.printing.proofs.entries.entries_fit.Statement.{statement}
 use Rattle.printing.proofs.entries.entries_fit.Tie as tie
-use Rattle.printing.proofs.entries.entries_fit.Reads as reads
-use Rattle.printing.proofs.entries.entries_fit.Lts as lts
-use Rattle.printing.proofs.call.line_at.Reads as line-at-reads
-use Rattle.printing.proofs.call.text_length.Reads as text-length-reads
 use borrow.Author.Needs.{needs}
 use Prim.Native.Nat.{_-_}
 use mathlib.Core.Path.{ap, _∙_}
@@ -18,43 +15,33 @@ Inv-loop text units outputs inputs calls room left₀ i₀ left i = Fitting text
 abbrev μ-loop : tie.MeasureT-loop
 μ-loop text units outputs inputs calls room left₀ i₀ left i = length calls - i
 
--- src/entries.rt:20:5
 loop-holds : tie.Need-loop-holds Inv-loop μ-loop
 loop-holds c = fitting-starts _ _ _
 
--- src/entries.rt:21:52
 shared-slice-read-line-at : tie.Need-shared-slice-read-line-at Inv-loop μ-loop
 shared-slice-read-line-at c = search needs
 
--- src/entries.rt:21:52
 cast-line-at : tie.Need-cast-line-at Inv-loop μ-loop
 cast-line-at c = omega (arith, c .shared-slice-known6 .given (c .before .before .loop .i))
 
--- src/entries.rt:21:13
 line-at-requires : tie.Need-line-at-requires Inv-loop μ-loop
 line-at-requires c κs = search needs
 
--- src/entries.rt:22:13
 text-length-requires : tie.Need-text-length-requires Inv-loop μ-loop
 text-length-requires c κs = λ h. found-small _ _ _ _ (c .before .before .before .before .before .before .before .before .before .pre) _ _ (c .line-at .ensures) h
 
--- src/entries.rt:24:13
 returns : tie.Need-returns Inv-loop μ-loop
 returns c = fitting-not (c .before .before .before .before .before .loop .inv) _ (c .before .before .before .before .loop-test .taken) (c .before .text-length .ensures ∙ ap length (found-prints _ _ _ _ (c .before .before .before .before .before .before .before .before .before .before .before .pre) _ _ (c .before .before .line-at .ensures) _)) (c .if1 .taken)
 
--- src/entries.rt:27:9
 add-i : tie.Need-add-i Inv-loop μ-loop
 add-i c = search needs
 
--- src/entries.rt:20:5
 loop-less : tie.Need-loop-less Inv-loop μ-loop
 loop-less c = search needs
 
--- src/entries.rt:20:5
 loop-again : tie.Need-loop-again Inv-loop μ-loop
 loop-again c = fitting-on (c .before .before .before .before .before .loop .inv) _ (c .before .before .before .before .loop-test .taken) (c .before .text-length .ensures ∙ ap length (found-prints _ _ _ _ (c .before .before .before .before .before .before .before .before .before .before .before .pre) _ _ (c .before .before .line-at .ensures) _)) (c .if1 .left)
 
--- src/entries.rt:14:1
 returns-2 : tie.Need-returns-2 Inv-loop μ-loop
 returns-2 c = fitting-ends (c .before .loop .inv) (c .loop-test .left)
 

@@ -1,12 +1,8 @@
+-- The loop keeps what is written beside what is still to come (`Writing`).
 use Rattle.printing.proofs.entries.put_entries.Statement.{statement}
 use Rattle.printing.proofs.entries.put_entries.Tie as tie
-use Rattle.printing.proofs.entries.put_entries.Reads as reads
-use Rattle.printing.proofs.entries.put_entries.Lts as lts
-use Rattle.printing.proofs.call.line_at.Reads as line-at-reads
-use Rattle.printing.proofs.call.put_text.Reads as put-text-reads
 use borrow.Author.Needs.{needs}
 use Prim.Native.Nat.{_-_}
-use mathlib.Core.Path.{ap, _∙_}
 use lib.ListN.{length}
 use native.Mathlib.Omega.{arith}
 use Rattle.printing.proofs.Declares.{found-small, found-prints, same-put, same-room}
@@ -18,43 +14,33 @@ Inv-loop text units outputs inputs calls out₀ at end₀ i₀ out end i = Writi
 abbrev μ-loop : tie.MeasureT-loop
 μ-loop text units outputs inputs calls out₀ at end₀ i₀ out end i = length calls - i
 
--- src/entries.rt:40:5
 loop-holds : tie.Need-loop-holds Inv-loop μ-loop
 loop-holds c = writing-starts _ _ _ _ (c .before .before .before .before .before .before .pre .1)
 
--- src/entries.rt:41:52
 shared-slice-read-line-at : tie.Need-shared-slice-read-line-at Inv-loop μ-loop
 shared-slice-read-line-at c = search needs
 
--- src/entries.rt:41:52
 cast-line-at : tie.Need-cast-line-at Inv-loop μ-loop
 cast-line-at c = omega (arith, c .shared-slice-known6 .given (c .before .before .loop .i))
 
--- src/entries.rt:41:13
 line-at-requires : tie.Need-line-at-requires Inv-loop μ-loop
 line-at-requires c κs = search needs
 
--- src/entries.rt:42:9
 put-text-requires : tie.Need-put-text-requires Inv-loop μ-loop
 put-text-requires c κs = (λ h. found-small _ _ _ _ (c .before .before .before .before .before .before .before .before .before .before .before .pre .0) _ _ (c .before .line-at .ensures) h, same-room _ _ (found-prints _ _ _ _ (c .before .before .before .before .before .before .before .before .before .before .before .pre .0) _ _ (c .before .line-at .ensures) _) (writing-room (c .before .before .before .before .loop .inv) (c .before .before .before .loop-test .taken) (c .before .before .before .before .before .before .before .before .before .before .before .pre .1)))
 
--- src/entries.rt:43:9
 add-i : tie.Need-add-i Inv-loop μ-loop
 add-i c = search needs
 
--- src/entries.rt:40:5
 loop-less : tie.Need-loop-less Inv-loop μ-loop
 loop-less c = search needs
 
--- src/entries.rt:40:5
 loop-again : tie.Need-loop-again Inv-loop μ-loop
 loop-again c = writing-on (c .before .before .before .before .before .before .before .loop .inv) (c .before .before .before .before .before .before .loop-test .taken) (same-put (c .before .before .put-text .ensures) (found-prints _ _ _ _ (c .before .before .before .before .before .before .before .before .before .before .before .before .before .before .pre .0) _ _ (c .before .before .before .before .line-at .ensures) _))
 
--- src/entries.rt:33:1
 same-length : tie.Need-same-length Inv-loop μ-loop
 same-length c = writing-long (c .before .loop .inv)
 
--- src/entries.rt:33:1
 returns : tie.Need-returns Inv-loop μ-loop
 returns c = writing-ends (c .before .loop .inv) (c .loop-test .left)
 
