@@ -1,0 +1,7 @@
+pub mod Words
+pub mod Rows
+pub mod Draft
+pub mod Lines
+pub mod Reading
+pub mod Lexed
+pub mod Examples
