@@ -47,8 +47,19 @@ module _ (out : List ℕ) (at : ℕ) (d w u p : List ℕ) (h : at + length (prin
       module _ {o₃ : List ℕ} {k₃ : ℕ} (w₃ : Wrote o₂ k₂ (u ++ (tab ∷ [])) o₃ k₃) where
         pub room-4 : k₃ + (length p + 1) ≤ length o₃
         room-4 =
-            omega (arith, all, w₁ .place, w₂ .place, w₃ .place, wrote-long w₁, wrote-long w₂, wrote-long w₃,
-                ended-long d tab, ended-long w tab, ended-long u tab)
+            omega (
+              arith,
+              all,
+              w₁ .place,
+              w₂ .place,
+              w₃ .place,
+              wrote-long w₁,
+              wrote-long w₂,
+              wrote-long w₃,
+              ended-long d tab,
+              ended-long w tab,
+              ended-long u tab,
+            )
 
         pub four-fields :
             {o₄ : List ℕ} {k₄ : ℕ} → Wrote o₃ k₃ (p ++ (lf ∷ [])) o₄ k₄ →

@@ -30,7 +30,14 @@ pub fn put_count(out: &mut [u8], at: usize, n: usize, end: u8) -> usize
 }
 
 // The line of a call: its place, its word, its unit's name, its port's name.
-pub fn put_entry(out: &mut [u8], at: usize, k: usize, word: &[u8], unit: &[u8], port: &[u8]) -> usize
+pub fn put_entry(
+    out: &mut [u8],
+    at: usize,
+    k: usize,
+    word: &[u8],
+    unit: &[u8],
+    port: &[u8],
+) -> usize
     requires { ⌜ at + length (printed (decimal k ∷ now word ∷ now unit ∷ now port ∷ [])) ≤ length (now out) ⌝ }
     ensures { λ r. ⌜ Wrote (now (out .entry)) at (printed (decimal k ∷ now (word .entry) ∷ now (unit .entry) ∷ now (port .entry) ∷ [])) (now (out .exit)) r ⌝ }
 {

@@ -1,36 +1,27 @@
+-- The line's length is that of its fields and the four bytes that end them.
 use borrow.Author.Needs.{needs}
 use Rattle.printing.proofs.line.entry_length.Statement.{statement}
 use Rattle.printing.proofs.line.entry_length.Tie as tie
-use Rattle.printing.proofs.line.entry_length.Reads as reads
-use Rattle.printing.proofs.line.entry_length.Lts as lts
-use Rattle.pen.proofs.digit_count.Reads as digit-count-reads
-use Rattle.pen.specs.Decimal.{decimal}
 use Rattle.pen.specs.Chain.{decimal-long}
 use native.Mathlib.Omega.{arith}
-use mathlib.Core.Path.{sym, _∙_}
+use mathlib.Core.Path.{sym}
 use Rattle.printing.proofs.Fielded.{entry-long}
 
--- src/line.rt:48:5
 digit-count-requires : tie.Need-digit-count-requires
 digit-count-requires c κs = search needs
 
--- src/line.rt:48:5
 add-result : tie.Need-add-result
 add-result c = omega (arith, decimal-long (c .before .before .before .before .args .k))
 
--- src/line.rt:48:5
 add-result-2 : tie.Need-add-result-2
 add-result-2 c = omega (arith, decimal-long (c .before .before .before .before .args .k))
 
--- src/line.rt:48:5
 add-result-3 : tie.Need-add-result-3
 add-result-3 c = omega (arith, decimal-long (c .before .before .before .before .args .k))
 
--- src/line.rt:48:5
 add-result-4 : tie.Need-add-result-4
 add-result-4 c = omega (arith, decimal-long (c .before .before .before .before .args .k))
 
--- src/line.rt:44:1
 returns : tie.Need-returns
 returns c = rw (c .digit-count .ensures) (sym (entry-long _ _ _ _))
 

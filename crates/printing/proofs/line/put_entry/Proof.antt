@@ -1,35 +1,25 @@
-use borrow.Author.Needs.{needs}
+-- Four fields put one after the other are the line.
 use Rattle.printing.proofs.line.put_entry.Statement.{statement}
 use Rattle.printing.proofs.line.put_entry.Tie as tie
-use Rattle.printing.proofs.line.put_entry.Reads as reads
-use Rattle.printing.proofs.line.put_entry.Lts as lts
-use Rattle.printing.proofs.line.put_count.Reads as put-count-reads
-use Rattle.printing.proofs.line.put_field.Reads as put-field-reads
 use Rattle.pen.specs.Decimal.{decimal}
 use Rattle.pen.specs.Chain.{wrote-long}
 use Rattle.printing.proofs.Fielded.{room-1, room-2, room-3, room-4, four-fields}
 
--- src/line.rt:37:9
 put-count-requires : tie.Need-put-count-requires
 put-count-requires c κs = room-1 (c .before .before .before .before .before .args .out .now) (c .before .before .before .before .before .args .at) (decimal (c .before .before .before .before .before .args .k)) (c .before .before .before .before .before .args .word .now) (c .before .before .before .before .before .args .unit .now) (c .before .before .before .before .before .args .port .now) (c .before .before .before .before .before .pre)
 
--- src/line.rt:38:9
 put-field-requires : tie.Need-put-field-requires
 put-field-requires c κs = room-2 _ _ _ _ _ _ (c .before .before .before .before .before .before .before .before .before .pre) (c .before .before .before .put-count .ensures)
 
--- src/line.rt:39:9
 put-field-requires-2 : tie.Need-put-field-requires-2
 put-field-requires-2 c κs = room-3 _ _ _ _ _ _ (c .before .before .before .before .before .before .before .before .before .before .before .before .before .pre) (c .before .before .before .before .before .before .before .put-count .ensures) (c .before .before .before .put-field .ensures)
 
--- src/line.rt:40:5
 put-field-requires-3 : tie.Need-put-field-requires-3
 put-field-requires-3 c κs = room-4 _ _ _ _ _ _ (c .before .before .before .before .before .before .before .before .before .before .before .before .before .before .before .before .before .pre) (c .before .before .before .before .before .before .before .before .before .before .before .put-count .ensures) (c .before .before .before .before .before .before .before .put-field .ensures) (c .before .before .before .put-field2 .ensures)
 
--- src/line.rt:33:1
 same-length : tie.Need-same-length
 same-length c = wrote-long (four-fields _ _ _ _ _ _ (c .before .before .before .before .before .before .before .before .before .before .before .before .before .before .before .before .before .before .before .before .pre) (c .before .before .before .before .before .before .before .before .before .before .before .before .before .before .put-count .ensures) (c .before .before .before .before .before .before .before .before .before .before .put-field .ensures) (c .before .before .before .before .before .before .put-field2 .ensures) (c .before .before .put-field3 .ensures))
 
--- src/line.rt:33:1
 returns : tie.Need-returns
 returns c = four-fields _ _ _ _ _ _ (c .before .before .before .before .before .before .before .before .before .before .before .before .before .before .before .before .before .before .before .before .pre) (c .before .before .before .before .before .before .before .before .before .before .before .before .before .before .put-count .ensures) (c .before .before .before .before .before .before .before .before .before .before .put-field .ensures) (c .before .before .before .before .before .before .put-field2 .ensures) (c .before .before .put-field3 .ensures)
 

@@ -1,0 +1,3 @@
+pub mod Scanning
+pub mod Refusals
+pub mod Turns

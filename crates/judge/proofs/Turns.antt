@@ -1,0 +1,100 @@
+-- One law for each answer of a judged run and of the loop that judges an order.
+use mathlib.Core.Path.{_≡_, refl, sym, ap, _∙_}
+use mathlib.Core.Bool.{Bool, true, false, cond}
+use mathlib.Core.List.{List}
+use Prim.Native.Nat.{ℕ, suc, _+_, _≤_, _<_}
+use native.Mathlib.Numerals.{add-one}
+use native.Mathlib.Omega.{arith}
+use lib.ListN.{length, getD, set, drop, replicate, drop-of-length-le}
+use lib.Seq.{drop-cons}
+use lib.Dec.{eqb}
+use borrow.Author.Tests.{eq-eqb, ne-eqb}
+use Rattle.search.specs.Sets.{none, add}
+use Rattle.table.specs.declared.Answer.{Answer}
+use Rattle.table.specs.Shape.{Shape, total}
+use Rattle.table.specs.Packed.{shapeOf}
+use Rattle.table.specs.Check.{refusal, checked}
+use Rattle.table.specs.Checked.{passed-sound, few-calls}
+use Rattle.judging.specs.Conditions.{refusalAt}
+use Rattle.judging.specs.Verdict.{answer, atEnd, verdictFrom, verdictOf}
+use Rattle.judging.specs.Met.{meets-iff, meets-call}
+use Rattle.judging.specs.Judged.{verdict-on, verdict-off, verdict-sound, verdict-unsound}
+use Rattle.judge.specs.declared.Run.{Run}
+use Rattle.judge.specs.declared.Taken.{Taken}
+use Rattle.judge.specs.Marks.{marks, marks-none, marks-set}
+use Rattle.judge.specs.Taken.{settled, taken}
+
+-- the check's number is the table's refusal
+pub checked-number : (t : List ℕ) (a : Answer) → a ≡ checked t → a .number ≡ refusal t
+unfolding checked
+checked-number t a e = ap (λ b. b .number) e
+
+-- a call that is taken is below 224
+pub taken-small : (t : List ℕ) → refusal t ≡ 0 → (done : ℕ → Bool) (c n : ℕ)
+    → n ≡ refusalAt (shapeOf t) done c → n ≡ 0 → c < 224
+taken-small t z done c n e o =
+    let m = meets-iff (shapeOf t) done c .0 (sym e ∙ o) in
+    omega (arith, meets-call (shapeOf t) done c m, few-calls t (passed-sound t z))
+
+-- ---- one call of a run
+
+module _ (t : List ℕ) (run : Run) (c n : ℕ) where
+  pub take-unsound : n ≡ refusal t → (n ≡ 0 → ⊥)
+      → _≡_ {A = Taken} (record { run = run; number = n }) (taken t run c)
+  unfolding taken settled
+  take-unsound e h = rw (← e, ne-eqb n 0 h, ne-eqb n 0 h)
+
+  module _ (sound : refusal t ≡ 0) (e : n ≡ refusalAt (shapeOf t) (marks (run .done)) c) where
+    pub take-refused : (n ≡ 0 → ⊥) → _≡_ {A = Taken} (record { run = run; number = n }) (taken t run c)
+    unfolding taken settled
+    take-refused h = rw (eq-eqb (refusal t) 0 sound, ← e, ne-eqb n 0 h)
+
+    pub take-taken : n ≡ 0
+        → _≡_ {A = Taken} (record { run = record { done = set (run .done) c true }; number = 0 }) (taken t run c)
+    unfolding taken settled
+    take-taken h = rw (eq-eqb (refusal t) 0 sound, ← e, eq-eqb n 0 h)
+
+-- ---- the calls of an order in turn
+
+module _ (s : Shape) (l : List ℕ) where
+  pub turn-starts : verdictFrom s none l 0 ≡ verdictFrom s (marks (replicate 224 false)) (drop 0 l) 0
+  turn-starts = ap (λ d. verdictFrom s d l 0) (sym marks-none)
+
+  module _ (d : List Bool) (k n : ℕ) (h : k < length l) (e : n ≡ refusalAt s (marks d) (getD l k 0)) where
+    pub turn-on : n ≡ 0 → getD l k 0 < 224 → length d ≡ 224
+        → verdictFrom s (marks d) (drop k l) k
+        ≡ verdictFrom s (marks (set d (getD l k 0) true)) (drop (k + 1) l) (k + 1)
+    turn-on o small long =
+        rw (drop-cons l k 0 h, verdict-on s (marks d) (getD l k 0) (drop (suc k) l) k (sym e ∙ o), add-one)
+        (ap (λ q. verdictFrom s q (drop (suc k) l) (suc k)) (sym (marks-set d (getD l k 0) small long)))
+
+    pub turn-off : (n ≡ 0 → ⊥) → verdictFrom s (marks d) (drop k l) k ≡ answer n k
+    turn-off o =
+        rw (drop-cons l k 0 h, verdict-off s (marks d) (getD l k 0) (drop (suc k) l) k (λ z. o (e ∙ z)), ← e)
+
+  pub turn-ends : (d : List Bool) (k : ℕ) → length l ≤ k → verdictFrom s (marks d) (drop k l) k ≡ atEnd s k
+  unfolding verdictFrom
+  turn-ends d k h = rw (drop-of-length-le l h)
+
+-- ---- the end of an order
+
+module _ (t : List ℕ) (k u y x : ℕ) (eu : u ≡ shapeOf t .units) (ey : y ≡ shapeOf t .outputs)
+    (ex : x ≡ shapeOf t .inputs) where
+  pub end-short : (k ≡ u + y + x → ⊥) → answer 18 k ≡ atEnd (shapeOf t) k
+  unfolding atEnd
+  end-short h = rw (← eu, ← ey, ← ex, ne-eqb k (u + y + x) h)
+
+  pub end-passed : k ≡ u + y + x → answer 0 k ≡ atEnd (shapeOf t) k
+  unfolding atEnd
+  end-passed h = rw (← eu, ← ey, ← ex, eq-eqb k (u + y + x) h)
+
+-- ---- the verdict
+
+module _ (t l : List ℕ) (a : Answer) (e : a ≡ checked t) where
+  pub verdict-refused : (a .number ≡ 0 → ⊥) → answer (a .number) 0 ≡ verdictOf t l
+  verdict-refused h =
+      let n = checked-number t a e in
+      rw n (sym (verdict-unsound t l (λ z. h (n ∙ z))))
+
+  pub verdict-judged : a .number ≡ 0 → (b : Answer) → b ≡ verdictFrom (shapeOf t) none l 0 → b ≡ verdictOf t l
+  verdict-judged h b q = q ∙ sym (verdict-sound t l (sym (checked-number t a e) ∙ h))

@@ -1,0 +1,3 @@
+pub mod Marks
+pub mod Scans
+pub mod Taken

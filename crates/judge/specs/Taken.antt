@@ -1,0 +1,26 @@
+-- What a judged run answers to one call.
+use mathlib.Core.Bool.{Bool, true, false, cond}
+use mathlib.Core.List.{List}
+use Prim.Native.Nat.{ℕ}
+use lib.Dec.{eqb}
+use lib.ListN.{set, replicate}
+use Rattle.table.specs.Packed.{shapeOf}
+use Rattle.table.specs.Check.{refusal}
+use Rattle.judging.specs.Conditions.{refusalAt}
+use Rattle.judge.specs.declared.Run.{Run}
+use Rattle.judge.specs.declared.Taken.{Taken}
+use Rattle.judge.specs.Marks.{marks}
+
+-- at the start nothing has been done
+unfoldable pub fresh : Run
+fresh = record { done = replicate 224 false }
+
+-- the next state with 0, or the state it had with the number of the refusal
+unfoldable pub settled : Run → ℕ → ℕ → Taken
+settled run c n =
+    cond (eqb n 0) (record { run = record { done = set (run .done) c true }; number = 0 })
+    (record { run = run; number = n })
+
+-- an unsound table is refused first, by 1 to 7, then the call by 11 to 17
+unfoldable pub taken : List ℕ → Run → ℕ → Taken
+taken t run c = settled run c (cond (eqb (refusal t) 0) (refusalAt (shapeOf t) (marks (run .done)) c) (refusal t))

@@ -1,0 +1,15 @@
+pub mod Keeps
+pub mod Cycle
+pub mod First
+pub mod Sort
+pub mod Walk
+pub mod Turn
+pub mod Follows
+pub mod Apart
+pub mod Unique
+pub mod Sorted
+pub mod Walked
+pub mod Remains
+pub mod Turned
+pub mod Seen
+pub mod Shown

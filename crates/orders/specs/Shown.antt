@@ -1,0 +1,79 @@
+-- Demand 2 over any calls and any rules: all are placed exactly where there is no cycle; else one is shown.
+use mathlib.Core.Path.{_≡_, refl, _∙_}
+use mathlib.Core.Logic.{_↔_}
+use mathlib.Core.Bool.{Bool, not}
+use mathlib.Core.List.{List, []}
+use Prim.Native.Nat.{ℕ, zero, suc, _≤_, _<_}
+use native.Mathlib.Omega.{arith}
+use native.Mathlib.Decide.{decLt}
+use lib.Dec.{T}
+use lib.ListN.{length, getD}
+use Rattle.search.specs.Truth.{clash}
+use Rattle.search.specs.Least.{lowest-is}
+use Rattle.search.specs.Count.{count-full}
+use Rattle.orders.specs.Cycle.{Cycle}
+use Rattle.orders.specs.First.{First}
+use Rattle.orders.specs.Apart.{apart}
+use Rattle.orders.specs.Sort.{placed}
+use Rattle.orders.specs.Sorted.{placed-first}
+use Rattle.orders.specs.Remains.{placed-count, placed-le, placed-stuck, left-one}
+use Rattle.orders.specs.Walk.{among, lowestLeft, met}
+use Rattle.orders.specs.Walked.{walk-lost, met-is}
+use Rattle.orders.specs.Turn.{turn, lowestPlace, shown}
+use Rattle.orders.specs.Turned.{Once, turn-length, turn-cycle, turn-once, lowestPlace-is, lowest-first}
+use Rattle.orders.specs.Seen.{new-once, walk-new}
+
+module _ (N : ℕ) (pred : ℕ → ℕ → Bool) where
+  -- a cycle that begins with its lowest call and has no call twice
+  pub record Shown (l : List ℕ) : Type 0 where
+    pub cycle : Cycle N pred l
+    pub lowest : (i : ℕ) → i < length l → getD l 0 0 ≤ getD l i 0
+    pub once : Once l
+
+  pub shown-is : length (placed N pred) < N → Shown (shown N pred (among (placed N pred)))
+  unfolding shown met
+  shown-is h =
+      let done = among (placed N pred) in
+      let m = met N pred done in
+      let (c, hc, t) = left-one N pred h in
+      let cy = met-is N pred done (placed-stuck N pred h) c hc t in
+      let p = lowestPlace-is N m (cy .some) (cy .calls) .0 in
+      let e = turn-length (lowestPlace N m) m p in
+      record {
+        cycle = turn-cycle (lowestPlace N m) m p N pred cy;
+        lowest = λ i hi. lowest-first N m (cy .some) (cy .calls) i (omega arith);
+        once = turn-once (lowestPlace N m) m p
+            (new-once m (walk-new N pred done (suc N) [] (lowestLeft N pred done) tt));
+      }
+
+  -- where nothing remains, nothing is shown
+  pub shown-none : length (placed N pred) ≡ N → shown N pred (among (placed N pred)) ≡ []
+  unfolding shown met lowestLeft
+  shown-none e =
+      let done = among (placed N pred) in
+      let l = lowest-is (λ c. not (done c)) N in
+      let n : N ≤ lowestLeft N pred done = elim (decLt (lowestLeft N pred done) N) [
+        | no p ↦ omega arith
+        | yes p ↦
+            absurd (clash (done (lowestLeft N pred done)) (count-full done N (placed-count N pred ∙ e) (lowestLeft N pred done) p) (l .passes p))
+      ] in
+      rw (walk-lost N pred done (suc N) [] (lowestLeft N pred done) n) (turn-none (lowestPlace N []))
+    where
+      turn-none : (k : ℕ) → turn k [] ≡ []
+      turn-none zero = refl
+      turn-none (suc k) = refl
+
+  -- ---- demand 2
+  -- all are placed exactly where no cycle exists
+  pub placed-iff : (length (placed N pred) ≡ N) ↔ ((cs : List ℕ) → Cycle N pred cs → ⊥)
+  placed-iff = (
+    (λ e cs cy. apart N pred (placed N pred) (placed-first N pred e .keeps) cs cy),
+    (λ n. elim (decLt (length (placed N pred)) N) [
+      | yes p ↦ absurd (n (shown N pred (among (placed N pred))) (shown-is p .cycle))
+      | no p ↦ omega (arith, placed-le N pred)
+    ]),
+  )
+
+  -- and then they stand in the first order, which has each call once
+  pub acyclic-first : ((cs : List ℕ) → Cycle N pred cs → ⊥) → First N pred (placed N pred)
+  acyclic-first n = placed-first N pred (placed-iff .1 n)

@@ -1,0 +1,33 @@
+-- The order's procedure: at each place the lowest ready call, until none is ready.
+use mathlib.Core.Bool.{Bool, true, false, not, _&&_}
+use mathlib.Core.List.{List, [], _∷_}
+use Prim.Native.Nat.{ℕ, zero, suc}
+use lib.Dec.{ltb}
+use Rattle.search.specs.Sets.{none, add}
+use Rattle.search.specs.Every.{some}
+use Rattle.search.specs.Least.{leastFrom}
+
+-- a is a direct predecessor of c that has not been placed
+abbrev pub lacks : (ℕ → ℕ → Bool) → (ℕ → Bool) → ℕ → ℕ → Bool
+lacks pred done c a = pred a c && not (done a)
+
+module _ (N : ℕ) (pred : ℕ → ℕ → Bool) where
+  -- "not yet placed", and its "direct predecessors have all been placed"
+  unfoldable pub ready : (ℕ → Bool) → ℕ → Bool
+  ready done c = not (done c) && not (some (lacks pred done c) N)
+
+  -- "the lowest-numbered call" that is ready; N where none is
+  unfoldable pub nextCall : (ℕ → Bool) → ℕ
+  nextCall done = leastFrom (ready done) N 0
+
+  -- at each of at most n places the lowest ready call
+  unfoldable pub sort : ℕ → (ℕ → Bool) → List ℕ
+  sort zero done = []
+  sort (suc n) done = elim (ltb (nextCall done) N) [
+    | true ↦ nextCall done ∷ sort n (add (nextCall done) done)
+    | false ↦ []
+  ]
+
+  -- all that can be placed, in its order
+  unfoldable pub placed : List ℕ
+  placed = sort N none

@@ -1,0 +1,38 @@
+-- "The cycle shown": the backward walk through the calls that remain.
+use mathlib.Core.Bool.{Bool, true, false, not, _||_}
+use mathlib.Core.List.{List, [], _∷_}
+use Prim.Native.Nat.{ℕ, zero, suc}
+use lib.Dec.{eqb, ltb}
+use Rattle.search.specs.Least.{leastFrom}
+use Rattle.orders.specs.Sort.{lacks}
+
+-- c is one of the list's
+abbrev pub among : List ℕ → ℕ → Bool
+among [] c = false
+among (x ∷ l) c = eqb c x || among l c
+
+-- the front of the list up to c, and c
+unfoldable pub upto : ℕ → List ℕ → List ℕ
+upto c [] = []
+upto c (x ∷ l) = elim (eqb c x) [ true ↦ x ∷ [] | false ↦ x ∷ upto c l ]
+
+module _ (N : ℕ) (pred : ℕ → ℕ → Bool) (done : ℕ → Bool) where
+  -- "its lowest remaining direct predecessor"; N where it has none
+  unfoldable pub lowestBefore : ℕ → ℕ
+  lowestBefore c = leastFrom (lacks pred done c) N 0
+
+  -- "until a call is met a second time"; seen has the newest first, so it stands in precedence order
+  unfoldable pub walk : ℕ → List ℕ → ℕ → List ℕ
+  walk zero seen c = []
+  walk (suc n) seen c = elim (ltb c N) [
+    | false ↦ []
+    | true ↦ elim (among seen c) [ true ↦ upto c seen | false ↦ walk n (c ∷ seen) (lowestBefore c) ]
+  ]
+
+  -- "the lowest remaining call"; N where none remains
+  unfoldable pub lowestLeft : ℕ
+  lowestLeft = leastFrom (λ c. not (done c)) N 0
+
+  -- "the calls from that one's first visit on"; none where the walk meets no call again
+  unfoldable pub met : List ℕ
+  met = walk (suc N) [] lowestLeft
