@@ -33,8 +33,14 @@ fn main() {
     heading("check");
     for member in families() {
         let table = member.table.packed();
-        let (proved, plain) = (cost(&counter, oorlichday_check, &table), cost(&counter, plain_check, &table));
+        let (proved, plain) =
+            (cost(&counter, oorlichday_check, &table), cost(&counter, plain_check, &table));
         row(member.family, &format!("N = {}", member.table.calls()), proved, plain);
     }
-    row("worst found", "each its own", worst(4_000, oorlichday_check).0, worst(4_000, plain_check).0);
+    row(
+        &format!("worst found, limit {}", LIMIT),
+        "each its own",
+        worst(4_000, oorlichday_check).0,
+        worst(4_000, plain_check).0,
+    );
 }

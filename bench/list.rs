@@ -28,6 +28,11 @@ fn main() {
         let names = Names::random(&mut Random::new(87), &member.table);
         let text = bytes(&plain(&member.table, &names));
         let proved = cost(&counter, oorlichday_list, &text);
-        row(member.family, &format!("{} bytes", text.len()), proved, cost(&counter, plain_list, &text));
+        row(
+            member.family,
+            &format!("{} bytes", text.len()),
+            proved,
+            cost(&counter, plain_list, &text),
+        );
     }
 }

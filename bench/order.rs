@@ -37,8 +37,14 @@ fn main() {
     heading("order");
     for member in families() {
         let table = member.table.packed();
-        let (proved, plain) = (cost(&counter, oorlichday_order, &table), cost(&counter, plain_order, &table));
+        let (proved, plain) =
+            (cost(&counter, oorlichday_order, &table), cost(&counter, plain_order, &table));
         row(member.family, &format!("N = {}", member.table.calls()), proved, plain);
     }
-    row("worst found", "each its own", worst(4_000, oorlichday_order).0, worst(4_000, plain_order).0);
+    row(
+        &format!("worst found, limit {}", LIMIT),
+        "each its own",
+        worst(4_000, oorlichday_order).0,
+        worst(4_000, plain_order).0,
+    );
 }

@@ -26,12 +26,13 @@ fn cost(counter: &Counter, read: Read, text: &[u8]) -> u64 {
     counter.count(|| unsafe { read(text.as_ptr(), text.len(), table.as_mut_ptr(), 644) }.place).0
 }
 
-/// A text of the greatest size: all inputs reactive, all names of 16 bytes, all counts at their bounds.
+/// A text of the greatest size: counts at their bounds, inputs reactive, names of 16 bytes.
 fn greatest(random: &mut Random) -> Vec<u8> {
     let mut table = any(random, GREATEST);
     table.reactive = vec![true; 96];
     let names = Names::longest(&table);
-    let lines = if random.percent(50) { plain(&table, &names) } else { mixed(random, &table, &names) };
+    let lines =
+        if random.percent(50) { plain(&table, &names) } else { mixed(random, &table, &names) };
     let text = bytes(&lines);
     assert_eq!(text.len(), GREATEST_TEXT);
     text
@@ -48,7 +49,14 @@ fn main() {
     let mut random = Random::new(84);
     let mut worst = |rounds: usize, read: Read| {
         let begin = |random: &mut Random| greatest(random);
-        hunt(&mut random, rounds, begin, |random, _| greatest(random), |text| cost(&counter, read, text)).0
+        hunt(
+            &mut random,
+            rounds,
+            begin,
+            |random, _| greatest(random),
+            |text| cost(&counter, read, text),
+        )
+        .0
     };
     if let Some(rounds) = rounds() {
         let greatest = worst(rounds / 4, oorlichday_read);
@@ -59,13 +67,28 @@ fn main() {
         let names = Names::random(&mut Random::new(85), &member.table);
         let text = bytes(&plain(&member.table, &names));
         let proved = cost(&counter, oorlichday_read, &text);
-        row(member.family, &format!("{} bytes", text.len()), proved, cost(&counter, plain_read, &text));
+        row(
+            member.family,
+            &format!("{} bytes", text.len()),
+            proved,
+            cost(&counter, plain_read, &text),
+        );
     }
     let text = long_text(&mut Random::new(86));
-    let (proved, plain) = (cost(&counter, oorlichday_read, &text), cost(&counter, plain_read, &text));
+    let (proved, plain) =
+        (cost(&counter, oorlichday_read, &text), cost(&counter, plain_read, &text));
     row("names of 16 bytes", &format!("{} bytes", text.len()), proved, plain);
     let (proved, plain) = (worst(400, oorlichday_read), worst(400, plain_read));
-    row("greatest text, worst found", &format!("{} bytes", GREATEST_TEXT), proved, plain);
+    row(
+        "greatest text, worst found, limit 100 for each byte",
+        &format!("{} bytes", GREATEST_TEXT),
+        proved,
+        plain,
+    );
     let of_a_byte = |count: u64| count as f64 / GREATEST_TEXT as f64;
-    println!("\nFor each byte of it: {:.1} proved, {:.1} plain.", of_a_byte(proved), of_a_byte(plain));
+    println!(
+        "\nFor each byte of it: {:.1} proved, {:.1} plain.",
+        of_a_byte(proved),
+        of_a_byte(plain)
+    );
 }

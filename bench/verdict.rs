@@ -67,5 +67,10 @@ fn main() {
             row(member.family, &size, proved, cost(&counter, plain_verdict, &case));
         }
     }
-    row("worst found", "each its own", worst(4_000, oorlichday_verdict).0, worst(4_000, plain_verdict).0);
+    row(
+        &format!("worst found, limit {}", LIMIT),
+        "each its own",
+        worst(4_000, oorlichday_verdict).0,
+        worst(4_000, plain_verdict).0,
+    );
 }

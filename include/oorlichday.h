@@ -1,4 +1,4 @@
-/* The order of calls for one step of joined models: check a table, order its calls, judge an order. */
+/* The order of calls for one step of joined models: check a table, order it, judge an order. */
 #ifndef OORLICHDAY_H
 #define OORLICHDAY_H
 
@@ -13,7 +13,7 @@ extern "C" {
 #define OORLICHDAY_TABLE_MAX 644u
 #define OORLICHDAY_ORDER_MAX 224u
 
-/* The numbers of an answer. 0 is success; 1 to 7 are the table's, 8 to 10 the order's, 11 to 18 the verdict's. */
+/* The numbers of an answer: 1 to 7 are the table's, 8 to 10 the order's, 11 to 18 the verdict's. */
 enum oorlichday_number {
     OORLICHDAY_OK = 0,
     OORLICHDAY_LENGTH = 1,            /* table under 4 bytes, or not the length its counts ask */
@@ -25,7 +25,7 @@ enum oorlichday_number {
     OORLICHDAY_FEED_TWICE = 7,        /* feed pair given before */
     OORLICHDAY_ROOM = 8,              /* order buffer under N bytes */
     OORLICHDAY_CYCLE = 9,             /* cycle; its length is the place */
-    OORLICHDAY_NOTHING_READY = 10,    /* nothing ready and no cycle found; never given for a sound table */
+    OORLICHDAY_NOTHING_READY = 10,    /* nothing ready, no cycle found; never for a sound table */
     OORLICHDAY_NO_CALL = 11,          /* no such call */
     OORLICHDAY_DONE_BEFORE = 12,      /* call done before */
     OORLICHDAY_DELAYED_SET = 13,      /* step: a delayed input is already set */
@@ -33,15 +33,15 @@ enum oorlichday_number {
     OORLICHDAY_NOT_STEPPED = 15,      /* get: unit not stepped */
     OORLICHDAY_FEEDING_NOT_SET = 16,  /* get: a feeding input not set */
     OORLICHDAY_SOURCE_NOT_GOT = 17,   /* set: source not got */
-    OORLICHDAY_ENDED = 18             /* order ended before N calls; the order's length is the place */
+    OORLICHDAY_ENDED = 18             /* order ended before N calls; its length is the place */
 };
 
 /*
  * Every answer is 256 times its number plus its place.
  *
- * What the caller owes: each pointer is not null and points at as many bytes as the length beside it
- * says, for the time of the call (a length of 0 may come with any non-null pointer). The bytes that
- * are written to overlap no other buffer of the same call; those that are only read may overlap.
+ * What the caller owes: each pointer is not null and points at as many bytes as the length beside
+ * it says, for the time of the call (a length of 0 may come with any non-null pointer). The bytes
+ * that are written to overlap no other buffer of the same call; those only read may overlap.
  * The functions keep no state, allocate nothing and may be called from any thread.
  */
 
@@ -52,12 +52,12 @@ static inline uint32_t oorlichday_place(uint32_t answer) { return answer & 255u;
 uint32_t oorlichday_check(const uint8_t *table, size_t table_len);
 
 /*
- * The first order of the table's calls: 0 with N, and N bytes at the front of `order`; or 9 with the
- * cycle's length, and that many bytes; or 1 to 8. Every other byte of `order` is left as it was.
+ * The first order of the table's calls: 0 with N, and N bytes at the front of `order`; or 9 with
+ * the cycle's length, and that many bytes; or 1 to 8. Every other byte of `order` is left alone.
  */
 uint32_t oorlichday_order(const uint8_t *table, size_t table_len, uint8_t *order, size_t order_len);
 
-/* Does the given order keep the rules? 0 with N; or 1 to 7; or the number and place of its first fault. */
+/* Does the order keep the rules? 0 with N; or 1 to 7; or number and place of its first fault. */
 uint32_t oorlichday_verdict(const uint8_t *table, size_t table_len,
                             const uint8_t *order, size_t order_len);
 

@@ -1,33 +1,43 @@
 # Where the archives under test are, and what they export: sourced after machine.sh.
-# Sets KIND (proved, or plain for the C versions of bench/plain), ARCHIVES, BUILD, and the list EXPORTS.
+# Sets KIND (proved, or plain for bench/plain's C versions), ARCHIVES (a folder), BUILD,
+# and the lists EXPORTS and ARCHIVE_NAMES.
 
 KIND=${1:-proved}
 BUILD=$ROOT/target/tests/$KIND
 mkdir -p "$BUILD"
 
-# The archive that holds an export, by tests/exports.txt.
-archive_of() {
-    sed 's/#.*//' "$ROOT/tests/exports.txt" | awk -v name="$1" '$2 == name { print $1 }'
+# The lines of tests/exports.txt that are switched on: archive, name.
+listed() {
+    grep -v '^#' "$ROOT/tests/exports.txt"
 }
 
-mapfile -t EXPORTS < <(sed 's/#.*//' "$ROOT/tests/exports.txt" | awk 'NF == 2 { print $2 }')
+archive_of() {
+    listed | awk -v name="$1" '$2 == name { print $1 }'
+}
+
+exports_of() {
+    listed | awk -v archive="$1" '$1 == archive { print "oorlichday_" $2 }' | sort
+}
+
+mapfile -t EXPORTS < <(listed | awk '{ print $2 }')
+mapfile -t ARCHIVE_NAMES < <(listed | awk '{ print $1 }' | sort -u)
 
 # The plain C versions: libplain.a under their own names, libnamed.a under the library's.
 build_plain() {
     local source name rename=()
-    for name in check order verdict read list names pack packed_length; do
+    for name in check order verdict read list line names pack packed_length; do
         rename+=(--redefine-sym "plain_$name=oorlichday_$name")
     done
     mkdir -p "$ROOT/target/tests/plain"
     (
         cd "$ROOT/target/tests/plain"
-        rm -f ./*.a
+        rm -f ./*.a ./*.o
         for source in "$ROOT"/bench/plain/*.c; do
             name=$(basename "$source" .c)
-            "$CC" -std=c11 -O2 -Wall -Wextra -Werror -c "$source" -o "$name.o"
-            "$OBJCOPY" "${rename[@]}" "$name.o" "named_$name.o"
+            "$CC" -std=c11 -O2 -Wall -Wextra -Werror -c "$source" -o "plain_$name.o"
+            "$OBJCOPY" "${rename[@]}" "plain_$name.o" "named_$name.o"
         done
-        "$AR" rcs libplain.a check.o order.o verdict.o read.o list.o
+        "$AR" rcs libplain.a plain_*.o
         "$AR" rcs libnamed.a named_*.o
     )
 }

@@ -1,5 +1,5 @@
-# Which machine this is, and what it must have: sourced by every script that builds or runs x86-64 code.
-# Sets ROOT, CC, NM, OBJDUMP, OBJCOPY, AR, RUSTC, RUN, QEMU; `need PACKAGE...` installs what is missing.
+# Which machine this is, and what it must have: sourced by all that build or run x86-64 code.
+# Sets ROOT, CC, NM, AR, OBJDUMP, OBJCOPY, QEMU, RUSTC, RUN; `need PACKAGE...` installs.
 
 ROOT=$(cd "$(dirname "${BASH_SOURCE[0]}")/.." && pwd)
 
@@ -7,12 +7,14 @@ ROOT=$(cd "$(dirname "${BASH_SOURCE[0]}")/.." && pwd)
 need() {
     local package missing=()
     for package in "$@"; do
-        dpkg-query -W -f '${db:Status-Status}\n' "$package" 2>/dev/null | grep -qx installed || missing+=("$package")
+        dpkg-query -W -f '${db:Status-Status}\n' "$package" 2>/dev/null | grep -qx installed ||
+            missing+=("$package")
     done
     [ ${#missing[@]} -eq 0 ] && return
     echo "installing ${missing[*]}" >&2
     apt-get update -qq >&2 </dev/null
-    DEBIAN_FRONTEND=noninteractive apt-get install -y -qq --no-install-recommends "${missing[@]}" >&2 </dev/null
+    DEBIAN_FRONTEND=noninteractive apt-get install -y -qq --no-install-recommends \
+        "${missing[@]}" >&2 </dev/null
 }
 
 # The compiler and the tools carry the target's name on both kinds of machine.
@@ -29,8 +31,8 @@ x86_64)
     ;;
 aarch64)
     dpkg --print-foreign-architectures | grep -qx amd64 || dpkg --add-architecture amd64
-    need gcc libc6-dev gcc-x86-64-linux-gnu libc6-dev-amd64-cross binutils-x86-64-linux-gnu qemu-user python3
-    need rustc libstd-rust-dev:amd64
+    need gcc libc6-dev gcc-x86-64-linux-gnu libc6-dev-amd64-cross binutils-x86-64-linux-gnu \
+        qemu-user python3 rustc libstd-rust-dev:amd64
     # The distribution's own rustc has the x86-64 library; another may come first in PATH.
     RUSTC=("$(dpkg -L rustc | grep '/bin/rustc$')" --edition 2021
         --target x86_64-unknown-linux-gnu -C linker="$CC")

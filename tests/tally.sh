@@ -1,8 +1,9 @@
 # Adds up what parts of a run report: sourced. A part's last 'N passed, M failed' is its count.
 
 passed=0 failed=0
+counted='.*\b([0-9]+) passed[,;] ([0-9]+) failed.*'
 
-# part NAME COMMAND...: runs it and adds its count; one that ends badly or reports nothing is a failure.
+# part NAME COMMAND...: runs it and adds its count; to end badly or to report nothing is a failure.
 part() {
     local name=$1 log good bad status
     shift
@@ -12,7 +13,7 @@ part() {
     (set -e && "$@") </dev/null 2>&1 | tee "$log"
     status=${PIPESTATUS[0]}
     set -e
-    read -r good bad < <(sed -nE 's/.*\b([0-9]+) passed[,;] ([0-9]+) failed.*/\1 \2/p' "$log" | tail -n 1) || true
+    read -r good bad < <(sed -nE "s/$counted/\\1 \\2/p" "$log" | tail -n 1) || true
     rm -f "$log"
     if [ -z "${good:-}" ]; then
         echo "$name: reported no count (status $status)"

@@ -51,8 +51,8 @@ def main():
             order, spent = in_process(pairs)
             if order != ours:
                 sys.exit(f"networkx orders {table.name} otherwise")
-            call = float(subprocess.check_output([program, str(table), str(CALLS)]).split()[0]) / 1e9
-            networked = f"{spent / call:.0f}"
+            told = subprocess.check_output([program, str(table), str(CALLS)])
+            networked = f"{spent * 1e9 / float(told.split()[0]):.0f}"
         print(f"| {table.stem} | {tsort} | {networked} |")
 
 

@@ -1,4 +1,4 @@
-/* order FILE: prints the first order of a packed table. order FILE CALLS: nanoseconds of one call. */
+/* order FILE: prints a packed table's first order. order FILE CALLS: nanoseconds of one call. */
 #include <stdio.h>
 #include <stdlib.h>
 #include <time.h>

@@ -1,11 +1,11 @@
 //! Writes acyclic tables of growing size into a folder: NAME.table packed, NAME.edges for tsort.
 
-#[path = "../../tests/reference/mod.rs"]
-#[allow(dead_code)]
-mod reference;
 #[path = "../support/families.rs"]
 #[allow(dead_code)]
 mod families;
+#[path = "../../tests/reference/mod.rs"]
+#[allow(dead_code)]
+mod reference;
 #[path = "../../tests/rust/support/mod.rs"]
 mod support_of_tests;
 

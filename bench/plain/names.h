@@ -25,6 +25,9 @@ struct names {
     uint8_t feed[256];
 };
 
+/* One line below the first: its number, or 0 with what it declares noted. */
+unsigned plain_line(struct names *names, const struct field *fields, unsigned count, unsigned line);
+
 /* All of the text but the room for the packed table. */
 struct plain_reading plain_names(const uint8_t *text, size_t text_len, struct names *names);
 size_t plain_packed_length(const struct names *names);

@@ -1,5 +1,6 @@
 /* The order by adjacency lists on the heap and a binary heap of ready calls. */
 #include <stdlib.h>
+#include "heap.h"
 #include "table.h"
 
 struct edge {
@@ -11,11 +12,6 @@ struct graph {
     unsigned calls;
     struct edge **after;
     unsigned *waiting;
-};
-
-struct heap {
-    unsigned count;
-    unsigned *calls;
 };
 
 static void *need(void *memory)
@@ -66,34 +62,6 @@ static void free_lists(struct edge **lists, unsigned count)
             lists[c] = next;
         }
     free(lists);
-}
-
-static void heap_push(struct heap *h, unsigned call)
-{
-    unsigned at = h->count++;
-    while (at > 0 && h->calls[(at - 1) / 2] > call) {
-        h->calls[at] = h->calls[(at - 1) / 2];
-        at = (at - 1) / 2;
-    }
-    h->calls[at] = call;
-}
-
-static unsigned heap_pop(struct heap *h)
-{
-    unsigned lowest = h->calls[0], last = h->calls[--h->count], at = 0;
-    for (;;) {
-        unsigned child = 2 * at + 1;
-        if (child >= h->count)
-            break;
-        if (child + 1 < h->count && h->calls[child + 1] < h->calls[child])
-            child++;
-        if (h->calls[child] >= last)
-            break;
-        h->calls[at] = h->calls[child];
-        at = child;
-    }
-    h->calls[at] = last;
-    return lowest;
 }
 
 /* Places all that can be placed, and tells how many. */

@@ -26,7 +26,9 @@ impl Counter {
     pub fn new() -> Counter {
         let mut ends = [0; 2];
         // Sound: the two ends are written into an array of two.
-        let made = unsafe { pipe2(ends.as_mut_ptr(), WITHOUT_WAITING) == 0 && dup2(ends[1], COUNTS) == COUNTS };
+        let made = unsafe {
+            pipe2(ends.as_mut_ptr(), WITHOUT_WAITING) == 0 && dup2(ends[1], COUNTS) == COUNTS
+        };
         assert!(made, "no pipe for the counts");
         Counter { counts: ends[0] }
     }

@@ -14,13 +14,44 @@ pub type Read = unsafe extern "C" fn(*const u8, usize, *mut u8, usize) -> Readin
 
 extern "C" {
     pub fn oorlichday_check(table: *const u8, table_len: usize) -> u32;
-    pub fn oorlichday_order(table: *const u8, table_len: usize, order: *mut u8, order_len: usize) -> u32;
-    pub fn oorlichday_verdict(table: *const u8, table_len: usize, order: *const u8, order_len: usize) -> u32;
-    pub fn oorlichday_read(text: *const u8, text_len: usize, table: *mut u8, table_len: usize) -> Reading;
-    pub fn oorlichday_list(text: *const u8, text_len: usize, out: *mut u8, out_len: usize) -> Reading;
+    pub fn oorlichday_order(
+        table: *const u8,
+        table_len: usize,
+        order: *mut u8,
+        order_len: usize,
+    ) -> u32;
+    pub fn oorlichday_verdict(
+        table: *const u8,
+        table_len: usize,
+        order: *const u8,
+        order_len: usize,
+    ) -> u32;
+    pub fn oorlichday_read(
+        text: *const u8,
+        text_len: usize,
+        table: *mut u8,
+        table_len: usize,
+    ) -> Reading;
+    pub fn oorlichday_list(
+        text: *const u8,
+        text_len: usize,
+        out: *mut u8,
+        out_len: usize,
+    ) -> Reading;
     pub fn plain_check(table: *const u8, table_len: usize) -> u32;
-    pub fn plain_order(table: *const u8, table_len: usize, order: *mut u8, order_len: usize) -> u32;
-    pub fn plain_verdict(table: *const u8, table_len: usize, order: *const u8, order_len: usize) -> u32;
-    pub fn plain_read(text: *const u8, text_len: usize, table: *mut u8, table_len: usize) -> Reading;
+    pub fn plain_order(table: *const u8, table_len: usize, order: *mut u8, order_len: usize)
+        -> u32;
+    pub fn plain_verdict(
+        table: *const u8,
+        table_len: usize,
+        order: *const u8,
+        order_len: usize,
+    ) -> u32;
+    pub fn plain_read(
+        text: *const u8,
+        text_len: usize,
+        table: *mut u8,
+        table_len: usize,
+    ) -> Reading;
     pub fn plain_list(text: *const u8, text_len: usize, out: *mut u8, out_len: usize) -> Reading;
 }

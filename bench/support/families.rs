@@ -3,7 +3,7 @@
 use crate::reference::order::order;
 use crate::reference::table::Table;
 use crate::support_of_tests::random::Random;
-use crate::support_of_tests::tables::{acyclic, any, chain, ring, Counts, GREATEST};
+use crate::support_of_tests::tables::{acyclic, any, chain, relabelled, ring, Counts, GREATEST};
 
 pub struct Member {
     pub family: &'static str,
@@ -18,10 +18,10 @@ fn in_proportion(units: usize) -> Counts {
     Counts { units, outputs: 3 * units, inputs: 3 * units, feeds: 4 * units }
 }
 
-/// Each unit's first inputs feed all outputs of the unit: as many feeds as 4 for each unit.
+/// Each unit's first two inputs feed its last two outputs: 4 feeds for each unit, no cycle.
 fn dense(units: usize) -> Table {
     let owner: Vec<usize> = (0..3 * units).map(|port| port / 3).collect();
-    let source = |input: usize| if input < 3 { input } else { input - 3 };
+    let source = |input: usize| if input < 3 { 0 } else { input - 3 };
     Table {
         units,
         output_owner: owner.clone(),
@@ -57,12 +57,13 @@ pub fn families() -> Vec<Member> {
 
 /// Great tables of every make, to begin a hunt with.
 pub fn great(random: &mut Random) -> Table {
-    match random.below(6) {
+    match random.below(7) {
         0 => chain(32, false),
         1 => chain(32, true),
         2 => dense(32),
         3 => ring(random.below(32), 96),
         4 => acyclic(random, GREATEST).0,
+        5 => relabelled(random, &dense(32)),
         _ => any(random, GREATEST),
     }
 }

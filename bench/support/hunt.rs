@@ -1,7 +1,10 @@
-//! The hunt for the dearest input: change one thing, keep what is not cheaper, begin again elsewhere.
+//! The hunt for the dearest input: change one thing, keep what is not cheaper, begin again.
 
 use crate::reference::table::{sound, Table};
 use crate::support_of_tests::random::Random;
+
+/// How often a hunt begins again.
+const STARTS: usize = 24;
 
 /// The greatest cost met in so many rounds, with its input.
 pub fn hunt<T: Clone>(
@@ -11,14 +14,14 @@ pub fn hunt<T: Clone>(
     mut change: impl FnMut(&mut Random, &T) -> T,
     mut cost: impl FnMut(&T) -> u64,
 ) -> (u64, T) {
-    const CLIMB: usize = 400;
+    let climb = (rounds / STARTS).max(1);
     let mut here = begin(random);
     let mut here_cost = cost(&here);
     let mut best = (here_cost, here.clone());
     for round in 1..rounds {
-        let next = if round % CLIMB == 0 { begin(random) } else { change(random, &here) };
+        let next = if round % climb == 0 { begin(random) } else { change(random, &here) };
         let next_cost = cost(&next);
-        if next_cost >= here_cost || round % CLIMB == 0 {
+        if next_cost >= here_cost || round % climb == 0 {
             here = next;
             here_cost = next_cost;
         }

@@ -14,7 +14,13 @@ pub fn row(input: &str, size: &str, proved: u64, plain: u64) {
 /// One limit: printed, and counted as passed or failed.
 pub fn limit(what: &str, worst: u64, limit: u64) {
     let held = worst <= limit;
-    println!("{}: worst {} of {} instructions ... {}", what, worst, limit, if held { "ok" } else { "FAILED" });
+    println!(
+        "{}: worst {} of {} instructions ... {}",
+        what,
+        worst,
+        limit,
+        if held { "ok" } else { "FAILED" }
+    );
     println!("{} passed, {} failed", held as u8, !held as u8);
     std::process::exit(!held as i32);
 }

@@ -14,7 +14,11 @@ static uint32_t check(const void *table, size_t length, int side)
 
 static void examples(int side)
 {
-    static const struct { size_t length; uint32_t answer; uint8_t table[16]; } cases[] = {
+    static const struct {
+        size_t length;
+        uint32_t answer;
+        uint8_t table[16];
+    } cases[] = {
         { 12, 6, { 2, 2, 2, 0, 0, 1, 0, 1, 0, 1, 1, 0 } },
         { 4, 1, { 1, 0, 0, 0 } },
         { 4, 32, { 32, 0, 0, 0 } },
@@ -44,7 +48,7 @@ static void lengths(int side)
     EXPECT(whole == OORLICHDAY_TABLE_MAX);
     for (size_t length = 0; length <= sizeof table; length++)
         EXPECT(check(table, length, side) == (length == whole ? 224u : 256u));
-    EXPECT(oorlichday_check(first, 0) == 256);
+    EXPECT(oorlichday_check(nowhere, 0) == 256);
 }
 
 static void any_bytes(int side)

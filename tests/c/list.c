@@ -36,6 +36,7 @@ static void cycles(int side)
 
 static void refusals(int side)
 {
+    EXPECT(oorlichday_list(nowhere, 0, nowhere, 0).number == 34);
     lists("", "refused\t20\t0\n", side);
     lists("cosim\t1\nunit\ta\nunit\ta\n", "refused\t26\t3\n", side);
 }

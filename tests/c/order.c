@@ -4,7 +4,7 @@
 
 static uint8_t *first, *second;
 
-/* Orders into a buffer of `room` bytes and tells whether it then holds `calls` and nothing else new. */
+/* Orders into a buffer of `room` bytes, which must then hold `calls` and nothing else new. */
 static uint32_t order(const void *table, size_t length, size_t room, const void *calls,
                       size_t written, int side)
 {
@@ -18,7 +18,11 @@ static uint32_t order(const void *table, size_t length, size_t room, const void 
 
 static void examples(int side)
 {
-    static const struct { size_t length; uint32_t answer; uint8_t table[16], calls[8]; } cases[] = {
+    static const struct {
+        size_t length;
+        uint32_t answer;
+        uint8_t table[16], calls[8];
+    } cases[] = {
         { 12, 6, { 2, 2, 2, 0, 0, 1, 0, 1, 0, 1, 1, 0 }, { 0, 2, 5, 1, 3, 4 } },
         { 12, 256 * 9 + 6, { 2, 2, 2, 0, 0, 1, 0, 1, 1, 1, 1, 0 }, { 0, 2, 5, 1, 3, 4 } },
         { 12, 6, { 2, 2, 2, 0, 0, 1, 0, 1, 0, 0, 1, 0 }, { 0, 1, 2, 3, 4, 5 } },
@@ -34,7 +38,8 @@ static void examples(int side)
     for (size_t k = 0; k < sizeof cases / sizeof cases[0]; k++) {
         uint32_t answer = cases[k].answer;
         size_t written = answer < 256 || answer / 256 == 9 ? answer % 256 : 0;
-        EXPECT(order(cases[k].table, cases[k].length, 224, cases[k].calls, written, side) == answer);
+        EXPECT(order(cases[k].table, cases[k].length, 224, cases[k].calls, written, side) ==
+               answer);
     }
 }
 
@@ -53,6 +58,8 @@ static void small(int side)
 {
     static const uint8_t a[] = { 2, 2, 2, 0, 0, 1, 0, 1, 0, 1, 1, 0 };
     static const uint8_t both_fed[] = { 2, 2, 2, 2, 0, 1, 0, 1, 0, 0, 1, 0, 0, 0, 1, 1 };
+    EXPECT(oorlichday_order(nowhere, 0, nowhere, 0) == 256);
+    EXPECT(oorlichday_order(a, sizeof a, nowhere, 0) == 256 * 8);
     rooms(a, sizeof a, 6, (uint8_t[]){ 0, 2, 5, 1, 3, 4 }, 6, side);
     rooms(both_fed, sizeof both_fed, 256 * 9 + 4, (uint8_t[]){ 2, 5, 3, 4 }, 6, side);
 }

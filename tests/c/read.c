@@ -1,4 +1,4 @@
-/* The text reader from C: the document's text, refusals, every packed length, sizes at the limit. */
+/* The text reader from C: document 01's text, refusals, buffers of every length, the size limit. */
 #include "desk.h"
 #include "test.h"
 
@@ -21,9 +21,16 @@ static int reads(const void *bytes, size_t length, size_t room, unsigned number,
            canaries(second, out, written) && (written == 0 || memcmp(out, table, written) == 0);
 }
 
+/* A unit with an output and an input. */
+#define UNIT "cosim\t1\nunit\ta\nout\ta\ty\nin\ta\tx\tdelayed\n"
+
 static void refusals(int side)
 {
-    static const struct { const char *text; unsigned number; size_t line; } cases[] = {
+    static const struct {
+        const char *text;
+        unsigned number;
+        size_t line;
+    } cases[] = {
         { "", 20, 0 },
         { "\n", 23, 1 },
         { "cosim\t1", 21, 1 },
@@ -39,14 +46,14 @@ static void refusals(int side)
         { "cosim\t1\nin\tb\tx\tmaybe\n", 28, 2 },
         { "cosim\t1\nin\tb\tx\tdelayed\n", 27, 2 },
         { "cosim\t1\nunit\ta\nunit\ta\n", 26, 3 },
-        { "cosim\t1\nunit\ta\nout\ta\ty\nin\ta\tx\tdelayed\njoin\ta\ty\ta\tx\njoin\ta\ty\ta\tx\n", 30, 6 },
-        { "cosim\t1\nunit\ta\nout\ta\ty\nin\ta\tx\tdelayed\nfeed\ta\tx\ty\nfeed\ta\tx\ty\n", 32, 6 },
+        { UNIT "join\ta\ty\ta\tx\njoin\ta\ty\ta\tx\n", 30, 6 },
+        { UNIT "feed\ta\tx\ty\nfeed\ta\tx\ty\n", 32, 6 },
         { "cosim\t1\n", 33, 1 },
         { "cosim\t1\nunit\ta\nin\ta\tx\tdelayed\n", 31, 3 },
     };
     for (size_t k = 0; k < sizeof cases / sizeof cases[0]; k++)
-        EXPECT(reads(cases[k].text, strlen(cases[k].text), 644, cases[k].number, cases[k].line, NULL,
-                     0, side));
+        EXPECT(reads(cases[k].text, strlen(cases[k].text), 644, cases[k].number, cases[k].line,
+                     NULL, 0, side));
 }
 
 static void sizes(int side)
@@ -57,6 +64,8 @@ static void sizes(int side)
     EXPECT(reads(long_text, 24577, 644, 20, 0, NULL, 0, side));
     long_text[24575] = '\n';
     EXPECT(reads(long_text, 24576, 644, 23, 1, NULL, 0, side));
+    EXPECT(oorlichday_read(nowhere, 0, nowhere, 0).number == 20);
+    EXPECT(oorlichday_read((const uint8_t *)text, sizeof text - 1, nowhere, 0).number == 34);
     for (size_t room = 0; room < sizeof a + 3; room++)
         EXPECT(room < sizeof a ? reads(text, sizeof text - 1, room, 34, 0, NULL, 0, side)
                                : reads(text, sizeof text - 1, room, 0, 12, a, 12, side));

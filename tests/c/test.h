@@ -72,6 +72,9 @@ static inline int canaries(const uint8_t *pages, const uint8_t *buffer, size_t w
     return 1;
 }
 
+/* What an empty buffer may come with: a pointer to nothing that is not null. */
+static uint8_t *const nowhere = (uint8_t *)1;
+
 /* A number that looks random and is the same in every run. */
 static inline uint32_t some_number(void)
 {
@@ -82,7 +85,7 @@ static inline uint32_t some_number(void)
     return (uint32_t)(state >> 16);
 }
 
-/* The greatest table: every unit a ring of feeds, 644 bytes, 224 calls; acyclic if all is delayed. */
+/* A table of the greatest counts, 644 bytes and 224 calls; acyclic if its inputs are delayed. */
 static inline size_t greatest(uint8_t *table, int reactive)
 {
     uint8_t *at = table;

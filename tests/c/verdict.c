@@ -1,4 +1,4 @@
-/* The verdict from C: document 01's examples, overlapping reads, long and empty orders, any bytes. */
+/* The verdict from C: document 01's examples, overlapping reads, any length, any bytes. */
 #include "../../include/oorlichday.h"
 #include "test.h"
 
@@ -19,8 +19,12 @@ static void examples(int side)
     static const uint8_t a[] = { 2, 2, 2, 0, 0, 1, 0, 1, 0, 1, 1, 0 };
     static const uint8_t c[] = { 2, 2, 2, 0, 0, 1, 0, 1, 0, 0, 1, 0 };
     static const uint8_t g[] = { 2, 2, 2, 1, 0, 1, 0, 1, 0, 0, 1, 0, 1, 1 };
-    static const struct { const uint8_t *table; size_t length, count; unsigned number, place;
-                          uint8_t calls[8]; } cases[] = {
+    static const struct {
+        const uint8_t *table;
+        size_t length, count;
+        unsigned number, place;
+        uint8_t calls[8];
+    } cases[] = {
         { a, 12, 6, 0, 6, { 0, 2, 5, 1, 3, 4 } },
         { c, 12, 6, 0, 6, { 1, 0, 3, 4, 2, 5 } },
         { g, 14, 3, 16, 2, { 0, 1, 3 } },
@@ -38,12 +42,14 @@ static void examples(int side)
         { a, 11, 0, 1, 0, { 0 } },
         { a, 0, 0, 1, 0, { 0 } },
     };
+    EXPECT(oorlichday_verdict(nowhere, 0, nowhere, 0) == 256);
+    EXPECT(oorlichday_verdict(a, sizeof a, nowhere, 0) == 256 * 18);
     for (size_t k = 0; k < sizeof cases / sizeof cases[0]; k++)
         EXPECT(verdict(cases[k].table, cases[k].length, cases[k].calls, cases[k].count, side) ==
                256 * cases[k].number + cases[k].place);
 }
 
-/* Steps, then outputs and inputs unit by unit pass on the greatest table with all inputs delayed. */
+/* Steps, then outputs and inputs unit by unit: passes where all inputs are delayed. */
 static void great(int side)
 {
     uint8_t table[OORLICHDAY_TABLE_MAX], calls[OORLICHDAY_ORDER_MAX + 300] = { 0 };

@@ -2,6 +2,7 @@
 
 pub mod calls;
 pub mod list;
+pub mod names;
 pub mod order;
 pub mod table;
 pub mod text;

@@ -26,7 +26,8 @@ fn first_order(before: &[Vec<usize>]) -> Result<Vec<usize>, Vec<bool>> {
     let mut placed = vec![false; before.len()];
     let mut order = Vec::new();
     while order.len() < before.len() {
-        let ready = |call: &usize| !placed[*call] && before[*call].iter().all(|&other| placed[other]);
+        let ready =
+            |call: &usize| !placed[*call] && before[*call].iter().all(|&other| placed[other]);
         match (0..before.len()).find(ready) {
             Some(call) => {
                 placed[call] = true;

@@ -7,8 +7,9 @@ mod support;
 
 use reference::{list::list, list::listing, Answer};
 use support::calls::{shown, Lender};
-use support::faults::{faulty, many_faults};
+use support::faults::faulty;
 use support::random::{fuzzing, Random};
+use support::several::many_faults;
 use support::tables::{self, chain, relabelled, ring};
 use support::texts::{bytes, mixed, plain, Names};
 
@@ -56,7 +57,8 @@ fn every_buffer_length() {
         let names = Names::random(&mut random, &table);
         let text = bytes(&mixed(&mut random, &table, &names));
         let whole = listing(&text).len();
-        for room in (0..whole + 3).filter(|&room| room < 40 || room + 40 > whole || room % 61 == 0) {
+        for room in (0..whole + 3).filter(|&room| room < 40 || room + 40 > whole || room % 61 == 0)
+        {
             assert_eq!(agree(&mut lender, &mut random, &text, room).number == 34, room < whole);
         }
     }
@@ -80,7 +82,8 @@ fn fuzz_list() {
         let table = tables::small(&mut random);
         let names = Names::random(&mut random, &table);
         let lines = mixed(&mut random, &table, &names);
-        let text = if random.percent(50) { bytes(&lines) } else { many_faults(&mut random, &lines) };
+        let text =
+            if random.percent(50) { bytes(&lines) } else { many_faults(&mut random, &lines) };
         let room = if random.percent(50) { 10_000 } else { random.below(4_000) };
         agree(&mut lender, &mut random, &text, room);
     }

@@ -21,9 +21,18 @@ fn agree(lender: &mut Lender, random: &mut Random, bytes: &[u8], room: usize) ->
 }
 
 #[test]
+fn sound_tables_of_every_size() {
+    let (mut random, mut lender) = (Random::new(20), Lender::new());
+    for table in tables::corpus() {
+        let answer = agree(&mut lender, &mut random, &table.packed(), 224);
+        assert!(answer.number == 0 || answer.number == 9);
+    }
+}
+
+#[test]
 fn tables_without_a_cycle() {
     let (mut random, mut lender) = (Random::new(21), Lender::new());
-    for _ in 0..50_000 {
+    for _ in 0..30_000 {
         let counts = counts(&mut random);
         let (table, _) = acyclic(&mut random, counts);
         let room = table.calls() + random.below(3);
@@ -36,7 +45,7 @@ fn tables_without_a_cycle() {
 fn tables_with_and_without_cycles() {
     let (mut random, mut lender) = (Random::new(22), Lender::new());
     let mut reached = [0usize; 19];
-    for round in 0..60_000 {
+    for round in 0..40_000 {
         let counts = counts(&mut random);
         let table = any(&mut random, counts);
         let room = if round % 8 == 0 { random.below(table.calls() + 4) } else { 224 };
@@ -63,7 +72,8 @@ fn damaged_tables_leave_the_buffer() {
 fn every_buffer_length() {
     let (mut random, mut lender) = (Random::new(24), Lender::new());
     for round in 0..60 {
-        let table = if round % 20 == 0 { any(&mut random, GREATEST) } else { tables::sound(&mut random) };
+        let table =
+            if round % 20 == 0 { any(&mut random, GREATEST) } else { tables::sound(&mut random) };
         for room in 0..table.calls() + 4 {
             let answer = agree(&mut lender, &mut random, &table.packed(), room);
             assert_eq!(answer.number == 8, room < table.calls());

@@ -8,8 +8,9 @@ mod support;
 use reference::{table::check, text::read, Answer};
 use support::calls::{shown, Lender};
 use support::damage::mutated;
-use support::faults::{faulty, many_faults, one_more};
+use support::faults::faulty;
 use support::random::{fuzzing, Random};
+use support::several::{many_faults, one_more, one_more_feed};
 use support::tables::{self, any, chain, GREATEST};
 use support::texts::{bytes, mixed, plain, Names};
 
@@ -25,10 +26,10 @@ fn agree(lender: &mut Lender, random: &mut Random, text: &[u8], room: usize) -> 
 #[test]
 fn tables_written_out_and_read_back() {
     let (mut random, mut lender) = (Random::new(41), Lender::new());
-    for round in 0..30_000 {
-        let table = tables::small(&mut random);
+    for (round, table) in tables::corpus().enumerate() {
         let names = Names::random(&mut random, &table);
-        let lines = if round % 4 == 0 { plain(&table, &names) } else { mixed(&mut random, &table, &names) };
+        let lines =
+            if round % 4 == 0 { plain(&table, &names) } else { mixed(&mut random, &table, &names) };
         let (text, packed) = (bytes(&lines), table.packed());
         let (answer, front) = read(&text, 644);
         assert_eq!((answer.number, &front), (0, &packed), "{}", shown(&text));
@@ -53,7 +54,12 @@ fn each_refusal_at_first_middle_and_last_lines() {
     }
     for number in (20..34).filter(|&number| number != 29) {
         let thirds = if number == 33 || number == 23 { 1 } else { 3 };
-        assert!(reached[number][..thirds].iter().all(|&count| count >= 50), "{} {:?}", number, reached);
+        assert!(
+            reached[number][..thirds].iter().all(|&count| count >= 50),
+            "{} {:?}",
+            number,
+            reached
+        );
     }
 }
 
@@ -92,17 +98,6 @@ fn counts_at_their_bounds() {
         }
     }
     assert!(reached[29] >= 100, "{:?}", reached);
-}
-
-/// A feed that is not given yet, after the last of 128.
-fn one_more_feed(table: &reference::table::Table, names: &Names) -> Option<Vec<u8>> {
-    let mut more = table.clone();
-    let pairs = (0..table.inputs()).flat_map(|i| (0..table.outputs()).map(move |o| (i, o)));
-    let fits = |&(i, o): &(usize, usize)| {
-        table.input_owner[i] == table.output_owner[o] && !table.feeds.contains(&(i, o))
-    };
-    more.feeds.push(pairs.into_iter().find(fits)?);
-    (more.feeds.len() > 128).then(|| bytes(&plain(&more, names)))
 }
 
 #[test]
@@ -152,7 +147,8 @@ fn fuzz_read() {
             0 => {
                 let letters = b"unitojefdcsm1\t\t\n\n_";
                 let length = random.below(60);
-                let tail: Vec<u8> = (0..length).map(|_| letters[random.below(letters.len())]).collect();
+                let tail: Vec<u8> =
+                    (0..length).map(|_| letters[random.below(letters.len())]).collect();
                 [&b"cosim\t1\n"[..], &tail, b"\n"].concat()
             }
             1 => mutated(&mut random, &bytes(&lines)),

@@ -20,6 +20,17 @@ fn agree(lender: &mut Lender, table: &[u8], calls: &[u8]) -> Answer {
 }
 
 #[test]
+fn first_orders_of_tables_of_every_size() {
+    let mut lender = Lender::new();
+    for table in tables::corpus() {
+        let bytes = table.packed();
+        let (answer, calls) = order(&bytes, 224);
+        let verdict = agree(&mut lender, &bytes, &calls);
+        assert_eq!(verdict.number == 0, answer.number == 0);
+    }
+}
+
+#[test]
 fn orders_that_pass() {
     let (mut random, mut lender) = (Random::new(31), Lender::new());
     let mut not_the_first = 0;
@@ -54,7 +65,12 @@ fn near_misses_early_and_late() {
         }
     }
     for number in 11..=18 {
-        assert!(reached[number].iter().all(|&count| count >= 50), "{} reached {:?}", number, reached);
+        assert!(
+            reached[number].iter().all(|&count| count >= 50),
+            "{} reached {:?}",
+            number,
+            reached
+        );
     }
 }
 

@@ -1,9 +1,8 @@
 """The most stack each exported function can use, from its machine code and call graph.
 
-Counted are pushes, frames, return addresses, and what a function keeps below the stack pointer.
-
-bound.py DISASSEMBLY EXPORT...: prints a line 'EXPORT BYTES' for each. Refuses recursion, indirect
-calls, a stack pointer it cannot follow, and calls of anything outside but memcpy and memset.
+bound.py DISASSEMBLY EXPORT...: prints a line 'EXPORT BYTES' for each. Counted are pushes, frames,
+return addresses and what is kept below the stack pointer. Refuses recursion, indirect calls, a
+stack pointer it cannot follow, and calls of anything outside but memcpy and memset.
 """
 import re
 import sys
@@ -20,7 +19,7 @@ def fail(text):
 
 
 def read(lines):
-    """For each function its instructions: (address, word, operands, symbol or None), in order."""
+    """For each function its instructions in order: [address, word, operands, symbol or None]."""
     functions, body = {}, None
     for line in lines:
         if match := FUNCTION.match(line):
@@ -35,105 +34,105 @@ def read(lines):
     return functions
 
 
-def change(word, operands, name):
+def moved(word, operands, name):
     """How many bytes an instruction moves the stack pointer down."""
-    if word == "push":
-        return 8
-    if word == "pop":
-        return -8
-    if re.match(r"rsp\b", operands) and word not in ("cmp", "test"):
-        amount = re.fullmatch(r"rsp,(0x[0-9a-f]+|\d+)", operands)
-        if word in ("sub", "add") and amount:
-            bytes_moved = int(amount[1], 0)
-            bytes_moved -= (bytes_moved >> 63) << 64
-            return bytes_moved if word == "sub" else -bytes_moved
-        offset = re.fullmatch(r"rsp,\[rsp([-+])(0x[0-9a-f]+)\]", operands)
-        if word == "lea" and offset:
-            return int(offset[2], 16) * (1 if offset[1] == "-" else -1)
-        if word == "and":
-            return 64
-        fail(f"{name}: cannot follow '{word} {operands}'")
-    return 0
+    if word in ("push", "pop"):
+        return 8 if word == "push" else -8
+    if not re.match(r"rsp\b", operands) or word in ("cmp", "test"):
+        return 0
+    amount = re.fullmatch(r"rsp,(0x[0-9a-f]+|\d+)", operands)
+    if word in ("sub", "add") and amount:
+        count = int(amount[1], 0)
+        count -= (count >> 63) << 64
+        return count if word == "sub" else -count
+    offset = re.fullmatch(r"rsp,\[rsp([-+])(0x[0-9a-f]+)\]", operands)
+    if word == "lea" and offset:
+        return int(offset[2], 16) * (1 if offset[1] == "-" else -1)
+    return fail(f"{name}: cannot follow '{word} {operands}'")
+
+
+def kept_below(word, operands):
+    """How far below the stack pointer an instruction reads or writes."""
+    below = re.search(r"\[rsp-(0x[0-9a-f]+)\]", operands)
+    return int(below[1], 16) if below and word != "lea" else 0
+
+
+class Walk:
+    """Every way through one function, with the depth at each instruction."""
+
+    def __init__(self, name, body, most):
+        self.name, self.body, self.most = name, body, most
+        self.place = {instruction[0]: index for index, instruction in enumerate(body)}
+        self.depth, self.todo, self.deepest, self.switches = {}, [], 0, set()
+
+    def reach(self, index, depth):
+        if index >= len(self.body):
+            return
+        if index not in self.depth:
+            self.depth[index] = depth
+            self.todo.append(index)
+        elif self.depth[index] != depth:
+            fail(f"{self.name}: two depths at one place")
+
+    def leave(self, operands, symbol, depth):
+        """A call, or a jump out of the function."""
+        named = re.fullmatch(r"[0-9a-f]+ <(.+?)(?:\+0x[0-9a-f]+)?>", operands)
+        if symbol is None and not named:
+            fail(f"{self.name}: indirect call '{operands}'")
+        self.deepest = max(self.deepest, depth + self.most(symbol or named[1]))
+
+    def take(self, index):
+        _, word, operands, symbol = self.body[index]
+        depth = self.depth[index] + moved(word, operands, self.name)
+        self.deepest = max(self.deepest, depth + kept_below(word, operands))
+        named = re.match(r"([0-9a-f]+) <", operands)
+        inside = self.place.get(int(named[1], 16)) if named and symbol is None else None
+        if word == "call":
+            self.leave(operands, symbol, depth)
+        elif word.startswith("j") and inside is not None:
+            self.reach(inside, depth)
+        elif word.startswith("j") and symbol is None and not named:
+            self.switches.add(depth)
+        elif word.startswith("j"):
+            self.leave(operands, symbol, depth - 8)
+        if word not in ("jmp", "ret", "ud2", "hlt"):
+            self.reach(index + 1, depth)
+
+    def arm(self):
+        """Code that only a jump table reaches begins at the depth of the jump."""
+        if len(self.switches) > 1:
+            fail(f"{self.name}: jump tables at two depths")
+        for index, (_, word, _, _) in enumerate(self.body):
+            if self.switches and index not in self.depth and word not in ("nop", "int3", "xchg"):
+                self.reach(index, min(self.switches))
+                return
+
+    def run(self):
+        self.reach(0, 0)
+        while self.todo:
+            self.take(self.todo.pop())
+            if not self.todo:
+                self.arm()
+        return self.deepest
 
 
 class Graph:
     def __init__(self, functions):
         self.functions, self.known, self.open = functions, {}, []
 
-    def target(self, name, operands, symbol):
-        """The function that a call or a jump out goes to."""
-        if symbol is None:
-            match = re.fullmatch(r"[0-9a-f]+ <(.+?)(\+0x[0-9a-f]+)?>", operands)
-            if not match:
-                fail(f"{name}: indirect call '{operands}'")
-            symbol = match[1]
-        return symbol
-
     def most(self, name):
         """Return address, own frame and the deepest callee."""
-        if name in self.known:
-            return self.known[name]
         if name in OUTSIDE:
             return 8
         if name not in self.functions:
             fail(f"calls {name}, which the archive does not hold")
         if name in self.open:
             fail("recursion: " + " -> ".join(self.open + [name]))
-        self.open.append(name)
-        self.known[name] = 8 + self.frame(name)
-        self.open.pop()
+        if name not in self.known:
+            self.open.append(name)
+            self.known[name] = 8 + Walk(name, self.functions[name], self.most).run()
+            self.open.pop()
         return self.known[name]
-
-    def frame(self, name):
-        """The deepest point of the function's own code, every way through it followed."""
-        body = self.functions[name]
-        place = {address: index for index, (address, *_) in enumerate(body)}
-        depth, todo, deepest, switches = {0: 0}, [0], 0, []
-        while todo:
-            index = todo.pop()
-            _, word, operands, symbol = body[index]
-            here = depth[index] + change(word, operands, name)
-            below = re.search(r"\[rsp-(0x[0-9a-f]+)\]", operands) if word != "lea" else None
-            deepest = max(deepest, here + (int(below[1], 16) if below else 0))
-            after = [index + 1]
-            if word == "call":
-                deepest = max(deepest, here + self.most(self.target(name, operands, symbol)))
-            elif word.startswith("ret") or word in ("ud2", "hlt"):
-                after = []
-            elif word.startswith("j"):
-                inside = re.match(r"([0-9a-f]+) <", operands)
-                if inside and symbol is None and int(inside[1], 16) in place:
-                    after = [place[int(inside[1], 16)]] + ([] if word == "jmp" else after)
-                elif symbol is not None or inside:
-                    deepest = max(deepest, here - 8 + self.most(self.target(name, operands, symbol)))
-                    after = [] if word == "jmp" else after
-                else:
-                    switches.append(here)
-                    after = []
-            for index in after:
-                if index < len(body) and depth.setdefault(index, here) != here:
-                    fail(f"{name}: two depths at one place")
-                if index < len(body) and index not in todo and index not in self.seen(name):
-                    self.seen(name).add(index)
-                    todo.append(index)
-            if not todo and switches:
-                todo = self.arms(body, depth, switches, name)
-        return deepest
-
-    def seen(self, name):
-        return self.__dict__.setdefault("walked", {}).setdefault(name, {0})
-
-    def arms(self, body, depth, switches, name):
-        """Code reached only by a jump table: it begins at the depth of the jump."""
-        if len(set(switches)) != 1:
-            fail(f"{name}: jump tables at two depths")
-        for index, (_, word, operands, _) in enumerate(body):
-            padding = word in ("nop", "int3", "xchg") or operands.startswith("nop")
-            if index not in self.seen(name) and not padding:
-                depth[index] = switches[0]
-                self.seen(name).add(index)
-                return [index]
-        return []
 
 
 def main():

@@ -1,10 +1,11 @@
 //! Inputs for the painted stack: great and small tables, orders and texts, and each refusal.
 
 use crate::support::damage::damaged;
-use crate::support::faults::{faulty, many_faults, one_more};
+use crate::support::faults::faulty;
 use crate::support::orders::{near_miss, set_too_early};
 use crate::support::random::Random;
-use crate::support::tables::{acyclic, any, counts, relabelled, ring, sound, small, GREATEST};
+use crate::support::several::{many_faults, one_more};
+use crate::support::tables::{acyclic, any, counts, relabelled, ring, small, sound, GREATEST};
 use crate::support::texts::{bytes, mixed, plain, Names};
 
 /// The buffer that is read and the second one.

@@ -1,4 +1,4 @@
-//! The deepest byte of stack that an exported function changes, over inputs that reach every number.
+//! The deepest byte of stack that a function changes, over inputs that reach every number.
 
 #![allow(clashing_extern_declarations)]
 
@@ -31,7 +31,7 @@ fn used(stack: &mut Stack, first: &[u8], second: &mut [u8]) -> (usize, usize) {
     let size = stack.0.len();
     let top = unsafe { stack.0.as_mut_ptr().add(size) };
     let answer: u64;
-    // Sound: the function keeps to its buffers and to the C calling convention; r12 outlives the call.
+    // Sound: the function keeps to its buffers and to C's calling convention, so r12 is kept.
     unsafe {
         asm!(
             "mov r12, rsp",
@@ -64,7 +64,8 @@ fn main() {
         reached[number] = true;
         deepest = deepest.max(bytes);
     }
-    let missing: Vec<usize> = inputs::numbers(EXPORT).into_iter().filter(|&n| !reached[n]).collect();
+    let missing: Vec<usize> =
+        inputs::numbers(EXPORT).into_iter().filter(|&n| !reached[n]).collect();
     assert!(missing.is_empty(), "{} never answered {:?}", EXPORT, missing);
     println!("{} {}", EXPORT, deepest);
 }

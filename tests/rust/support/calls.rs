@@ -12,10 +12,24 @@ pub struct Reading {
 
 extern "C" {
     fn oorlichday_check(table: *const u8, table_len: usize) -> u32;
-    fn oorlichday_order(table: *const u8, table_len: usize, order: *mut u8, order_len: usize) -> u32;
-    fn oorlichday_verdict(table: *const u8, table_len: usize, order: *const u8, order_len: usize)
-        -> u32;
-    fn oorlichday_read(text: *const u8, text_len: usize, table: *mut u8, table_len: usize) -> Reading;
+    fn oorlichday_order(
+        table: *const u8,
+        table_len: usize,
+        order: *mut u8,
+        order_len: usize,
+    ) -> u32;
+    fn oorlichday_verdict(
+        table: *const u8,
+        table_len: usize,
+        order: *const u8,
+        order_len: usize,
+    ) -> u32;
+    fn oorlichday_read(
+        text: *const u8,
+        text_len: usize,
+        table: *mut u8,
+        table_len: usize,
+    ) -> Reading;
     fn oorlichday_list(text: *const u8, text_len: usize, out: *mut u8, out_len: usize) -> Reading;
 }
 

@@ -3,8 +3,14 @@
 use std::os::raw::{c_int, c_void};
 
 extern "C" {
-    fn mmap(at: *mut c_void, size: usize, access: c_int, flags: c_int, fd: c_int, offset: i64)
-        -> *mut c_void;
+    fn mmap(
+        at: *mut c_void,
+        size: usize,
+        access: c_int,
+        flags: c_int,
+        fd: c_int,
+        offset: i64,
+    ) -> *mut c_void;
     fn mprotect(at: *mut c_void, size: usize, access: c_int) -> c_int;
 }
 
@@ -34,8 +40,9 @@ impl Lent {
         let whole = size + 2 * PAGE;
         // Sound: a fresh mapping of our own, never given back.
         let pages = unsafe {
-            let start = mmap(std::ptr::null_mut(), whole, READ_AND_WRITE, PRIVATE_AND_ANONYMOUS, -1, 0)
-                as *mut u8;
+            let start =
+                mmap(std::ptr::null_mut(), whole, READ_AND_WRITE, PRIVATE_AND_ANONYMOUS, -1, 0)
+                    as *mut u8;
             assert!(start as isize != -1, "no pages");
             assert_eq!(mprotect(start as *mut c_void, PAGE, 0), 0);
             assert_eq!(mprotect(start.add(PAGE + size) as *mut c_void, PAGE, 0), 0);

@@ -1,6 +1,7 @@
-//! Makers of sound tables: any, acyclic ones with an order, chains and rings, the greatest.
+//! Makers of sound tables: any, acyclic ones with an order, small ones, and the common corpus.
 
 use super::random::Random;
+pub use super::shapes::{chain, relabelled, ring};
 use crate::reference::table::Table;
 
 /// The counts a table is asked to have; a maker may give fewer feeds.
@@ -28,7 +29,12 @@ pub fn counts(random: &mut Random) -> Counts {
 }
 
 /// Adds feeds within one unit that are taken by the test, up to the count asked.
-fn add_feeds(random: &mut Random, table: &mut Table, most: usize, taken: impl Fn(usize, usize) -> bool) {
+fn add_feeds(
+    random: &mut Random,
+    table: &mut Table,
+    most: usize,
+    taken: impl Fn(usize, usize) -> bool,
+) {
     let mut pairs = Vec::new();
     for input in 0..table.inputs() {
         for output in 0..table.outputs() {
@@ -66,7 +72,8 @@ pub fn any(random: &mut Random, counts: Counts) -> Table {
 pub fn acyclic(random: &mut Random, counts: Counts) -> (Table, Vec<u8>) {
     const END: usize = 1 << 40;
     let step: Vec<usize> = (0..counts.units).map(|_| random.below(END)).collect();
-    let output_owner: Vec<usize> = (0..counts.outputs).map(|_| random.below(counts.units)).collect();
+    let output_owner: Vec<usize> =
+        (0..counts.outputs).map(|_| random.below(counts.units)).collect();
     let get: Vec<usize> =
         output_owner.iter().map(|&unit| random.between(step[unit] + 1, END + 1)).collect();
     let mut table = Table {
@@ -98,63 +105,6 @@ pub fn acyclic(random: &mut Random, counts: Counts) -> (Table, Vec<u8>) {
     (table, order)
 }
 
-/// A chain through all 7 calls of each unit: step, get, set, get, set, get, set, next unit's step.
-/// Closed, the last set comes before the first step, and the shown cycle has 3 calls of each unit.
-pub fn chain(units: usize, closed: bool) -> Table {
-    let mut table = Table {
-        units,
-        output_owner: Vec::new(),
-        input_owner: Vec::new(),
-        reactive: Vec::new(),
-        source: Vec::new(),
-        feeds: Vec::new(),
-    };
-    for unit in 0..units {
-        let first = 3 * unit;
-        let next = (unit + 1) % units;
-        table.output_owner.extend([unit, unit, unit]);
-        table.input_owner.extend([unit, unit, next]);
-        table.reactive.extend([false, false, next != 0 || closed]);
-        table.source.extend([first, first + 1, first + 2]);
-        table.feeds.extend([(first, first + 1), (first + 1, first + 2)]);
-    }
-    table
-}
-
-/// A ring of 2 * ports + k calls: k units that step, and gets and sets of unit 0 joined by feeds.
-pub fn ring(k: usize, ports: usize) -> Table {
-    let owner: Vec<usize> = (1..=k).chain((k..ports).map(|_| 0)).collect();
-    Table {
-        units: k + 1,
-        output_owner: owner.clone(),
-        input_owner: owner,
-        reactive: (0..ports).map(|input| input < k).collect(),
-        source: (0..ports).map(|input| (input + ports - 1) % ports).collect(),
-        feeds: (k..ports).map(|port| (port, port)).collect(),
-    }
-}
-
-/// The same table with units, outputs and inputs numbered anew and its feeds in another order.
-pub fn relabelled(random: &mut Random, table: &Table) -> Table {
-    let unit = random.shuffled(table.units);
-    let output = random.shuffled(table.outputs());
-    let input = random.shuffled(table.inputs());
-    let mut other = table.clone();
-    for (from, &to) in output.iter().enumerate() {
-        other.output_owner[to] = unit[table.output_owner[from]];
-    }
-    for (from, &to) in input.iter().enumerate() {
-        other.input_owner[to] = unit[table.input_owner[from]];
-        other.reactive[to] = table.reactive[from];
-        other.source[to] = output[table.source[from]];
-    }
-    for (place, from) in random.shuffled(table.feeds.len()).into_iter().enumerate() {
-        let (fed, feeding) = (table.feeds[from].1, table.feeds[from].0);
-        other.feeds[place] = (input[feeding], output[fed]);
-    }
-    other
-}
-
 /// A sound table of any of these makes.
 pub fn sound(random: &mut Random) -> Table {
     let counts = counts(random);
@@ -182,4 +132,14 @@ pub fn small(random: &mut Random) -> Table {
     } else {
         acyclic(random, counts).0
     }
+}
+
+/// The sound tables that the tests of every function go through: all makes, and all sizes.
+pub fn corpus() -> impl Iterator<Item = Table> {
+    let makes = (0..30_000).map(|seed| sound(&mut Random::new(1_000_000 + seed)));
+    let sizes = (1..=32).flat_map(|units| (0..=96).map(move |ports| (units, ports)));
+    makes.chain(sizes.map(|(units, ports)| {
+        let counts = Counts { units, outputs: ports, inputs: ports, feeds: 128 };
+        any(&mut Random::new((100 * units + ports) as u64), counts)
+    }))
 }

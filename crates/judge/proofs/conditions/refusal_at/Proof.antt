@@ -3,7 +3,6 @@ use Rattle.judge.proofs.conditions.refusal_at.Statement.{statement}
 use Rattle.judge.proofs.conditions.refusal_at.Tie as tie
 use Rattle.judge.proofs.conditions.refusal_at.Reads as reads
 use Rattle.judge.proofs.conditions.refusal_at.Lts as lts
-use Rattle.calls.proofs.call_in.Reads as call-in-reads
 use Rattle.judge.proofs.conditions.get_refusal.Reads as get-refusal-reads
 use Rattle.judge.proofs.conditions.marked.Reads as marked-reads
 use Rattle.judge.proofs.conditions.set_refusal.Reads as set-refusal-reads
