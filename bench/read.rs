@@ -8,6 +8,7 @@ mod support;
 #[allow(dead_code)]
 mod support_of_tests;
 
+use reference::table::Table;
 use support::count::Counter;
 use support::exports::{oorlichday_read, plain_read, Read};
 use support::families::{families, great};
@@ -26,9 +27,21 @@ fn cost(counter: &Counter, read: Read, text: &[u8]) -> u64 {
     counter.count(|| unsafe { read(text.as_ptr(), text.len(), table.as_mut_ptr(), 644) }.place).0
 }
 
+/// A table whose ports all belong to the last unit, and whose joins and feeds name the last ports.
+fn late() -> Table {
+    Table {
+        units: 32,
+        output_owner: vec![31; 96],
+        input_owner: vec![31; 96],
+        reactive: vec![true; 96],
+        source: vec![95; 96],
+        feeds: (0..128).map(|k| (95 - k / 12, 95 - k % 12)).collect(),
+    }
+}
+
 /// A text of the greatest size: counts at their bounds, inputs reactive, names of 16 bytes.
 fn greatest(random: &mut Random) -> Vec<u8> {
-    let mut table = any(random, GREATEST);
+    let mut table = if random.percent(50) { any(random, GREATEST) } else { late() };
     table.reactive = vec![true; 96];
     let names = Names::longest(&table);
     let lines =
