@@ -16,7 +16,7 @@ use support::hunt::hunt;
 use support::rows::{heading, limit, rounds, row};
 use support_of_tests::random::Random;
 use support_of_tests::tables::{any, GREATEST};
-use support_of_tests::texts::{bytes, mixed, plain, Names};
+use support_of_tests::texts::{bytes, mixed, plain as plain_text, Names};
 
 const LIMIT_OF_A_BYTE: u64 = 100;
 const GREATEST_TEXT: usize = 22_952;
@@ -45,10 +45,25 @@ fn greatest(random: &mut Random) -> Vec<u8> {
     table.reactive = vec![true; 96];
     let names = Names::longest(&table);
     let lines =
-        if random.percent(50) { plain(&table, &names) } else { mixed(random, &table, &names) };
+        if random.percent(50) { plain_text(&table, &names) } else { mixed(random, &table, &names) };
     let text = bytes(&lines);
     assert_eq!(text.len(), GREATEST_TEXT);
     text
+}
+
+/// The names with a few last letters of one port changed, still all different.
+fn renamed(random: &mut Random, names: &Names) -> Names {
+    let mut other = names.clone();
+    let ports = if random.percent(50) { &mut other.outputs } else { &mut other.inputs };
+    let port = random.below(ports.len());
+    let mut name = ports[port].clone();
+    for letter in &mut name[13..] {
+        *letter = b'a' + random.below(26) as u8;
+    }
+    if !ports.contains(&name) {
+        ports[port] = name;
+    }
+    other
 }
 
 /// Any great table under names of 16 bytes.
@@ -65,6 +80,7 @@ fn main() {
         hunt(
             &mut random,
             rounds,
+            1,
             begin,
             |random, _| greatest(random),
             |text| cost(&counter, read, text),
@@ -78,7 +94,7 @@ fn main() {
     heading("read");
     for member in families() {
         let names = Names::random(&mut Random::new(85), &member.table);
-        let text = bytes(&plain(&member.table, &names));
+        let text = bytes(&plain_text(&member.table, &names));
         let proved = cost(&counter, oorlichday_read, &text);
         row(
             member.family,
@@ -97,6 +113,19 @@ fn main() {
         &format!("{} bytes", GREATEST_TEXT),
         proved,
         plain,
+    );
+    let mut random = Random::new(88);
+    let mut crowded = |read: Read| {
+        let begin = |_: &mut Random| Names::longest(&late());
+        let text = |names: &Names| bytes(&plain_text(&late(), names));
+        hunt(&mut random, 800, 1, begin, renamed, |names| cost(&counter, read, &text(names))).0
+    };
+    let size = format!("{} bytes", GREATEST_TEXT);
+    row(
+        "greatest text, names hunted for too",
+        &size,
+        crowded(oorlichday_read),
+        crowded(plain_read),
     );
     let of_a_byte = |count: u64| count as f64 / GREATEST_TEXT as f64;
     println!(
