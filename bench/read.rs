@@ -11,7 +11,7 @@ mod support_of_tests;
 use reference::table::Table;
 use support::count::Counter;
 use support::exports::{oorlichday_read, plain_read, Read};
-use support::families::{families, great};
+use support::families::families;
 use support::hunt::hunt;
 use support::rows::{heading, limit, rounds, row};
 use support_of_tests::random::Random;
@@ -66,71 +66,38 @@ fn renamed(random: &mut Random, names: &Names) -> Names {
     other
 }
 
-/// Any great table under names of 16 bytes.
-fn long_text(random: &mut Random) -> Vec<u8> {
-    let table = great(random);
-    bytes(&mixed(random, &table, &Names::longest(&table)))
+/// The dearest of so many texts of the greatest size.
+fn worst(counter: &Counter, rounds: usize, read: Read) -> u64 {
+    let mut random = Random::new(84);
+    (0..rounds).map(|_| cost(counter, read, &greatest(&mut random))).max().unwrap_or(0)
+}
+
+/// The same where the names, too, are hunted for.
+fn worst_names(counter: &Counter, read: Read) -> u64 {
+    let begin = |_: &mut Random| Names::longest(&late());
+    let text = |names: &Names| bytes(&plain_text(&late(), names));
+    let cost = |names: &Names| cost(counter, read, &text(names));
+    hunt(&mut Random::new(88), 800, 1, begin, renamed, cost).0
 }
 
 fn main() {
     let counter = Counter::new();
-    let mut random = Random::new(84);
-    let mut worst = |rounds: usize, read: Read| {
-        let begin = |random: &mut Random| greatest(random);
-        hunt(
-            &mut random,
-            rounds,
-            1,
-            begin,
-            |random, _| greatest(random),
-            |text| cost(&counter, read, text),
-        )
-        .0
-    };
     if let Some(rounds) = rounds() {
-        let greatest = worst(rounds / 4, oorlichday_read);
+        let greatest = worst(&counter, rounds / 4, oorlichday_read);
         limit("read, the greatest text", greatest, LIMIT_OF_A_BYTE * GREATEST_TEXT as u64 - 1);
     }
     heading("read");
     for member in families() {
         let names = Names::random(&mut Random::new(85), &member.table);
         let text = bytes(&plain_text(&member.table, &names));
-        let proved = cost(&counter, oorlichday_read, &text);
-        row(
-            member.family,
-            &format!("{} bytes", text.len()),
-            proved,
-            cost(&counter, plain_read, &text),
-        );
+        let (proved, plain) =
+            (cost(&counter, oorlichday_read, &text), cost(&counter, plain_read, &text));
+        row(member.family, &format!("{} bytes", text.len()), proved, plain);
     }
-    let text = long_text(&mut Random::new(86));
-    let (proved, plain) =
-        (cost(&counter, oorlichday_read, &text), cost(&counter, plain_read, &text));
-    row("names of 16 bytes", &format!("{} bytes", text.len()), proved, plain);
-    let (proved, plain) = (worst(400, oorlichday_read), worst(400, plain_read));
-    row(
-        "greatest text, worst found, limit 100 for each byte",
-        &format!("{} bytes", GREATEST_TEXT),
-        proved,
-        plain,
-    );
-    let mut random = Random::new(88);
-    let mut crowded = |read: Read| {
-        let begin = |_: &mut Random| Names::longest(&late());
-        let text = |names: &Names| bytes(&plain_text(&late(), names));
-        hunt(&mut random, 800, 1, begin, renamed, |names| cost(&counter, read, &text(names))).0
-    };
     let size = format!("{} bytes", GREATEST_TEXT);
-    row(
-        "greatest text, names hunted for too",
-        &size,
-        crowded(oorlichday_read),
-        crowded(plain_read),
-    );
-    let of_a_byte = |count: u64| count as f64 / GREATEST_TEXT as f64;
-    println!(
-        "\nFor each byte of it: {:.1} proved, {:.1} plain.",
-        of_a_byte(proved),
-        of_a_byte(plain)
-    );
+    let (proved, plain) = (worst(&counter, 400, oorlichday_read), worst(&counter, 400, plain_read));
+    row("greatest text, worst found, limit 2295199", &size, proved, plain);
+    let (proved, plain) =
+        (worst_names(&counter, oorlichday_read), worst_names(&counter, plain_read));
+    row("greatest text, names hunted for too", &size, proved, plain);
 }
