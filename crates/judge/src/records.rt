@@ -5,7 +5,8 @@ ghost use Prim.Native.Nat.{_+_, _<_};
 ghost use lib.Dec.{ltb};
 ghost use Rattle.table.specs.Packed.{shapeOf};
 ghost use Rattle.table.specs.Check.{refusal};
-ghost use Rattle.judge.specs.Records.{numbered, begun as begun-of, judgedNext, concluded};
+ghost use Rattle.judging.specs.Verdict.{verdictOf};
+ghost use Rattle.judge.specs.Records.{numbered, allNumbered, begun as begun-of, judgedNext, concluded};
 use crate::conditions::refusal_at;
 use crate::ended;
 use table::Answer;
@@ -100,4 +101,21 @@ fn concluded_at(judged: Judged, table: &[u8], taken: usize) -> Answer
         };
     }
     ended(table, taken)
+}
+
+// The verdict on a list of records: that on their call numbers.
+pub fn verdict_of_records(table: &[u8], records: &[Record]) -> Answer
+    ensures { λ r.
+        ⌜ r
+        ≡ verdictOf
+        (now (table .entry))
+        (allNumbered (shapeOf (now (table .entry))) (now (records .entry))) ⌝ }
+{
+    let mut judged = begun(table);
+    let mut place = 0;
+    while place < records.len() {
+        judged = judged_next(judged, table, records[place], place);
+        place += 1;
+    }
+    concluded_at(judged, table, place)
 }
