@@ -17,7 +17,8 @@ use Rattle.judging.specs.Verdict.{answer, atEnd}
 use Rattle.judge.specs.declared.records.Record.{Record}
 use Rattle.judge.specs.declared.records.Judged.{Judged}
 use Rattle.judge.specs.Marks.{marks}
-use Rattle.judge.specs.Records.{numbered, begun, judgedCall, judgedNext, concluded}
+use Rattle.judge.specs.Records.{numbered}
+use Rattle.judge.specs.Carried.{begun, judgedCall, judgedNext, concluded}
 use Rattle.judge.proofs.Turns.{checked-number}
 
 module _ (number count first none : ℕ) where

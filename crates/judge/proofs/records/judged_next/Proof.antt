@@ -1,34 +1,25 @@
+-- one law for each answer; a call that is taken is below 224
 use borrow.Author.Needs.{needs}
 use Rattle.judge.proofs.records.judged_next.Statement.{statement}
 use Rattle.judge.proofs.records.judged_next.Tie as tie
-use Rattle.judge.proofs.records.judged_next.Reads as reads
-use Rattle.judge.proofs.records.judged_next.Lts as lts
-use Rattle.judge.proofs.conditions.refusal_at.Reads as refusal-at-reads
-use Rattle.judge.proofs.records.call_number.Reads as call-number-reads
 use Rattle.judge.proofs.Turns.{taken-small}
 use Rattle.judge.proofs.Recorded.{next-refused, next-stops, next-goes}
 
--- src/records.rt:75:9
 returns : tie.Need-returns
 returns c = next-refused _ _ _ _ (c .if1 .taken)
 
--- src/records.rt:78:9
 call-number-requires : tie.Need-call-number-requires
 call-number-requires c κs = search needs
 
--- src/records.rt:79:9
 refusal-at-requires : tie.Need-refusal-at-requires
 refusal-at-requires c κs = c .before .before .before .before .before .before .pre (c .before .before .before .if1 .left)
 
--- src/records.rt:84:9
 returns-2 : tie.Need-returns-2
 returns-2 c = next-stops _ _ _ _ (c .before .before .before .before .before .if1 .left) _ _ (c .before .before .before .call-number .ensures) (c .before .refusal-at .ensures) (c .if2 .taken)
 
--- src/records.rt:86:5
 element-write-next : tie.Need-element-write-next
 element-write-next c = taken-small _ (c .before .before .before .before .before .before .before .before .pre (c .before .before .before .before .before .if1 .left)) _ _ _ (c .before .refusal-at .ensures) (c .if2 .left)
 
--- src/records.rt:70:1
 returns-3 : tie.Need-returns-3
 returns-3 c = next-goes _ _ _ _ (c .before .before .before .before .before .if1 .left) _ _ (c .before .before .before .call-number .ensures) (c .before .refusal-at .ensures) (c .if2 .left)
 

@@ -55,7 +55,8 @@ use Rattle.table.specs.Check.{refusal}
 use Rattle.judging.specs.Verdict.{verdictOf}
 use Rattle.judge.specs.declared.records.Record.{Record}
 use Rattle.judge.specs.declared.records.Judged.{Judged}
-use Rattle.judge.specs.Records.{allNumbered, begun as begunOf, judgedNext, concluded, noRecord, upTo}
+use Rattle.judge.specs.Records.{allNumbered}
+use Rattle.judge.specs.Carried.{begun as begunOf, judgedNext, concluded, noRecord, upTo}
 use Rattle.judge.proofs.Walked.{up-next, up-starts, up-sound, records-verdict}
 use Rattle.table.proofs.Answer as S
 use Rattle.table.proofs.Answer.Laws as S′
@@ -154,9 +155,6 @@ module _ {M : Type 1} (𝓤 : URA M) (H : Heap 𝓤) (A : Atoms 𝓤) (W : Given
 
   said-begun : (r : Judged) → ent 𝓤 (ensured 𝓤 H A begun.ended (begun.clauses 𝓤 H A mem run) (κ, tt) (x₁, tt) tt r) (fact 𝓤 (r ≡ begunOf ts))
   said-begun r = exE 𝓤 _ (λ ws. snd∗ 𝓤 (sem 𝓤 H A (lasts begun.ended (κ, tt) (x₁, tt) ws)) (fact 𝓤 (r ≡ begunOf ts)))
-
-  abbrev next-args : ℕ → Judged × (RefT (List ℕ) × (Record × (ℕ × Unit {0})))
-  next-args i = (up i, (x₁, (el i, (i, tt))))
 
   abbrev next-vals : ℕ → Val → Vals next.signature (κ, tt)
   next-vals i u = (u ∷ [], (v₁ ∷ [], (mach i ∷ [], (vint w64 i ∷ [], tt))))

@@ -1,19 +1,15 @@
+-- one law for each answer
 use borrow.Author.Needs.{needs}
 use Rattle.judge.proofs.records.within.Statement.{statement}
 use Rattle.judge.proofs.records.within.Tie as tie
-use Rattle.judge.proofs.records.within.Reads as reads
-use Rattle.judge.proofs.records.within.Lts as lts
 use Rattle.judge.proofs.Recorded.{within-yes, within-no}
 
--- src/records.rt:35:16
 add-result : tie.Need-add-result
 add-result c = search needs
 
--- src/records.rt:35:9
 returns : tie.Need-returns
 returns c = within-yes _ _ _ _ (c .if1 .taken)
 
--- src/records.rt:30:1
 returns-2 : tie.Need-returns-2
 returns-2 c = within-no _ _ _ _ (c .if1 .left)
 
