@@ -10,7 +10,7 @@ ghost use Rattle.judging.specs.Conditions.{refusalOf, refusalAt};
 ghost use Rattle.judge.specs.Marks.{marks};
 ghost use Rattle.judge.specs.Scans.{amissAt, lackingAt};
 use calls::Call;
-use calls::call_in;
+use calls::number::call_in;
 use table::parts::byte;
 use table::parts::feed_count;
 use table::parts::feed_pairs;

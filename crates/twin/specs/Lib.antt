@@ -4,5 +4,6 @@ pub mod Equations
 pub mod Midway
 pub mod Solved
 pub mod Demand
+pub mod Moved
 pub mod Integers
 pub mod Examples

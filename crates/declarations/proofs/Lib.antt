@@ -1,0 +1,2 @@
+-- Laws of the loop over the lines.
+mod Noting

@@ -1,0 +1,6 @@
+-- The lines that declare units, outputs and inputs.
+pub mod Lines
+pub mod Turn
+pub mod Begins
+pub mod Standing
+pub mod Determined

@@ -1,0 +1,31 @@
+-- The tables of document 01's examples.
+use Prim.Native.Nat.{ℕ}
+use mathlib.Core.List.{List, [], _∷_}
+
+-- A: pump and tank, the pump's input delayed and the tank's reactive
+abbrev pub A : List ℕ
+A = 2 ∷ 2 ∷ 2 ∷ 0 ∷ 0 ∷ 1 ∷ 0 ∷ 1 ∷ 0 ∷ 1 ∷ 1 ∷ 0 ∷ []
+
+-- A, both reactive
+abbrev pub A-reactive : List ℕ
+A-reactive = 2 ∷ 2 ∷ 2 ∷ 0 ∷ 0 ∷ 1 ∷ 0 ∷ 1 ∷ 1 ∷ 1 ∷ 1 ∷ 0 ∷ []
+
+-- C: A with both inputs delayed
+abbrev pub C : List ℕ
+C = 2 ∷ 2 ∷ 2 ∷ 0 ∷ 0 ∷ 1 ∷ 0 ∷ 1 ∷ 0 ∷ 0 ∷ 1 ∷ 0 ∷ []
+
+-- C with feeds (0,0), (1,1)
+abbrev pub C-fed : List ℕ
+C-fed = 2 ∷ 2 ∷ 2 ∷ 2 ∷ 0 ∷ 1 ∷ 0 ∷ 1 ∷ 0 ∷ 0 ∷ 1 ∷ 0 ∷ 0 ∷ 0 ∷ 1 ∷ 1 ∷ []
+
+-- G: C with feed (1,1)
+abbrev pub G : List ℕ
+G = 2 ∷ 2 ∷ 2 ∷ 1 ∷ 0 ∷ 1 ∷ 0 ∷ 1 ∷ 0 ∷ 0 ∷ 1 ∷ 0 ∷ 1 ∷ 1 ∷ []
+
+-- one unit and no port
+abbrev pub alone : List ℕ
+alone = 1 ∷ 0 ∷ 0 ∷ 0 ∷ []
+
+-- one unit joined to itself, its input delayed or reactive
+abbrev pub itself : ℕ → List ℕ
+itself kind = 1 ∷ 1 ∷ 1 ∷ 0 ∷ 0 ∷ 0 ∷ kind ∷ 0 ∷ []

@@ -1,0 +1,54 @@
+// Runs the examples of document 01 and of its readings that are not proved, and prints what each gives.
+use judge::verdict;
+use table::Answer;
+use table::check::check;
+
+// Writes the front of a line to standard output.
+fn write_front(line: &[u8], at: usize) {
+    if at <= line.len() {
+        io::write_all(1, &line[..at]);
+    }
+}
+
+// An example's name, then the number and the place that it gives.
+fn gives(name: &[u8], answer: Answer) {
+    let mut line = [0u8; 80];
+    let mut at = pen::put(&mut line, 0, name);
+    at = pen::put(&mut line, at, b" gives ");
+    at = pen::put_number(&mut line, at, answer.number as usize);
+    at = pen::put(&mut line, at, b" at ");
+    at = pen::put_number(&mut line, at, answer.place);
+    at = pen::put_byte(&mut line, at, 10);
+    write_front(&line, at);
+}
+
+// Orders judged on table A.
+fn judged() {
+    let a = [2u8, 2, 2, 0, 0, 1, 0, 1, 0, 1, 1, 0];
+    gives(b"A: 0 2 2", verdict(&a, &[0u8, 2, 2]));
+    gives(b"A: 0 3", verdict(&a, &[0u8, 3]));
+    gives(b"A: 0 2 4", verdict(&a, &[0u8, 2, 4]));
+    gives(b"A: 6", verdict(&a, &[6u8]));
+    gives(b"A: 0 2 5 1 3", verdict(&a, &[0u8, 2, 5, 1, 3]));
+    let some = [0u8];
+    gives(b"A: no calls", verdict(&a, &some[..0]));
+    gives(b"A: 0 2 5 1 3 4 0", verdict(&a, &[0u8, 2, 5, 1, 3, 4, 0]));
+}
+
+// Tables checked.
+fn checked() {
+    let most = [32u8, 0, 0, 0];
+    let more = [33u8, 0, 0, 0, 0];
+    gives(b"U of 32", check(&most));
+    gives(b"U of 33", check(&more[..4]));
+    gives(b"U of 33, a byte too long", check(&more));
+    gives(b"U of 33, under 4 bytes", check(&more[..3]));
+    gives(b"no bytes", check(&more[..0]));
+    gives(b"an input and no output", check(&[1u8, 0, 1, 0, 0, 0, 0]));
+    gives(b"a feed and no input", check(&[1u8, 0, 0, 1, 0, 0]));
+}
+
+fn main() {
+    checked();
+    judged();
+}

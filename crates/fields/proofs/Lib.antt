@@ -1,0 +1,3 @@
+-- Laws of the loops.
+mod Bytes
+mod Lexing

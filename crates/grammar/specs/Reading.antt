@@ -1,0 +1,66 @@
+-- The whole text: its checks, its first line, its lines, its end, and the packed bytes.
+use Prim.Native.Nat.{ℕ, suc, _-_}
+use mathlib.Core.Bool.{Bool, not, _&&_, _||_, cond}
+use mathlib.Core.List.{List, [], _∷_, _++_, map}
+use lib.ListN.{length, getD, drop}
+use lib.Dec.{eqb, ltb}
+use Rattle.grammar.specs.Words.{lf, same, cosim, one}
+use Rattle.grammar.specs.Rows.{rows, word, lineOf, firstBad}
+use Rattle.grammar.specs.Draft.{Draft, Output, Input, Feed, blank, noInput, isInput, loose}
+use Rattle.grammar.specs.Lines.{Outcome, line}
+
+-- a refusal with its line; or 0 with the packed length and the packed bytes
+pub record Reading : Type 0 where
+  pub number : ℕ
+  pub place : ℕ
+  pub bytes : List ℕ
+
+-- "Any refusal leaves the packed buffer unchanged"
+unfoldable pub stopped : ℕ → ℕ → Reading
+stopped n k = record { number = n; place = k; bytes = [] }
+
+unfoldable pub pairs : List Feed → List ℕ
+pairs [] = []
+pairs (f ∷ fs) = f .input ∷ (f .output ∷ pairs fs)
+
+-- "The packed table": counts, owners of outputs and of inputs, kinds, sources, feeds
+unfoldable pub packed : Draft → List ℕ
+packed d =
+    length (d .units) ∷ (length (d .outputs) ∷ (length (d .inputs) ∷ (length (d .feeds) ∷
+    (map (λ o. o .owner) (d .outputs) ++ (map (λ i. i .owner) (d .inputs)
+    ++ (map (λ i. i .kind) (d .inputs) ++ (map (λ i. i .source) (d .inputs) ++ pairs (d .feeds))))))))
+
+-- "success returns the packed length and writes the table"
+unfoldable pub written : Draft → Reading
+written d = record { number = 0; place = length (packed d); bytes = packed d }
+
+-- "at the end 33 no unit (line 1), 31 input without join (..), 34 packed buffer too short (line 0)"
+unfoldable pub ending : ℕ → Draft → Reading
+ending room d =
+    cond (eqb (length (d .units)) 0) (stopped 33 1)
+    (cond (isInput d (loose d)) (stopped 31 (getD (d .inputs) (loose d) noInput .line))
+    (cond (ltb room (length (packed d))) (stopped 34 0)
+    (written d)))
+
+-- line k and those below it
+unfoldable pub linesFrom : ℕ → Draft → ℕ → List (List (List ℕ)) → Reading
+linesFrom room d k [] = ending room d
+linesFrom room d k (f ∷ fs) =
+    let o = line d k f in
+    cond (eqb (o .number) 0) (linesFrom room (o .draft) (suc k) fs) (stopped (o .number) k)
+
+-- "`cosim`, `1`: first line, exactly": the version that it names, or 0
+unfoldable pub version : List (List ℕ) → ℕ
+version f = cond (eqb (length f) 2 && (same (word f 0) cosim && same (word f 1) one)) 1 0
+
+unfoldable pub lineByLine : ℕ → List (List (List ℕ)) → Reading
+lineByLine room fs =
+    cond (eqb (version (getD fs 0 [])) 0) (stopped 23 1) (linesFrom room blank 2 (drop 1 fs))
+
+-- "20, 21, 22 are checked over the whole text first, then line by line"; room is the packed buffer's
+unfoldable pub reading : ℕ → List ℕ → Reading
+reading room t =
+    cond (eqb (length t) 0 || ltb 24576 (length t)) (stopped 20 0)
+    (cond (not (eqb (getD t (length t - 1) 0) lf)) (stopped 21 (lineOf t (length t)))
+    (cond (ltb (firstBad t) (length t)) (stopped 22 (lineOf t (firstBad t)))
+    (lineByLine room (rows t))))

@@ -1,0 +1,1 @@
+// Theory alone: what reading a text table gives, for any bytes.

@@ -1,0 +1,3 @@
+-- Laws of the pen's loops.
+mod Putting
+mod Digits

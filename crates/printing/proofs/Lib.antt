@@ -1,0 +1,5 @@
+-- Laws of the printed lines.
+mod Fielded
+mod Declares
+mod Listing
+mod Whole

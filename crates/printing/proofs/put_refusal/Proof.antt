@@ -1,0 +1,58 @@
+-- Room for the whole is tested before the first byte is put.
+use borrow.Author.Needs.{needs}
+use Rattle.printing.proofs.put_refusal.Statement.{statement}
+use Rattle.printing.proofs.put_refusal.Tie as tie
+use native.Mathlib.Omega.{arith}
+use Rattle.pen.specs.Decimal.{decimal}
+use Rattle.pen.specs.Chain.{decimal-long, wrote-long}
+use Rattle.printing.proofs.Fielded.{ended-long}
+use Rattle.printing.proofs.Whole.{listed-not, refusal-long, refusal-all}
+
+digit-count-requires : tie.Need-digit-count-requires
+digit-count-requires c κs = search needs
+
+digit-count-requires-2 : tie.Need-digit-count-requires-2
+digit-count-requires-2 c κs = search needs
+
+add-if1 : tie.Need-add-if1
+add-if1 c = omega (arith, decimal-long (c .before .before .before .args .number), decimal-long (c .before .before .before .args .line))
+
+add-if1-2 : tie.Need-add-if1-2
+add-if1-2 c = omega (arith, decimal-long (c .before .before .before .args .number), decimal-long (c .before .before .before .args .line))
+
+returns : tie.Need-returns
+returns c = listed-not _ _ (omega (arith, refusal-long (c .before .before .before .before .args .number) (c .before .before .before .before .args .line)))
+
+slice-aggregate-put-field : tie.Need-slice-aggregate-put-field
+slice-aggregate-put-field c = search needs
+
+put-field-requires : tie.Need-put-field-requires
+put-field-requires c κs = search needs
+
+put-count-requires : tie.Need-put-count-requires
+put-count-requires c κs = search needs
+
+put-count-requires-2 : tie.Need-put-count-requires-2
+put-count-requires-2 c κs = omega (arith, c .before .before .before .before .before .before .before .before .before .before .if1 .left, c .before .before .before .before .before .before .before .before .before .before .before .before .digit-count .ensures, c .before .before .before .before .before .before .before .before .before .before .before .digit-count2 .ensures, c .before .before .before .before .before .before .before .put-field .ensures .place, c .before .before .before .put-count .ensures .place, wrote-long (c .before .before .before .before .before .before .before .put-field .ensures), wrote-long (c .before .before .before .put-count .ensures), ended-long (decimal (c .before .before .before .before .before .before .before .before .before .before .before .before .before .before .args .number)) 9)
+
+same-length : tie.Need-same-length
+same-length c = search needs
+
+returns-2 : tie.Need-returns-2
+returns-2 c = refusal-all _ _ (c .before .before .before .before .before .before .before .before .before .before .put-field .ensures) (c .before .before .before .before .before .before .put-count .ensures) (c .before .before .put-count2 .ensures)
+
+pub put-refusal-spec : {M : Type 1} → statement M
+put-refusal-spec =
+    tie.close
+    (tie.spec
+    digit-count-requires
+    digit-count-requires-2
+    add-if1
+    add-if1-2
+    returns
+    slice-aggregate-put-field
+    put-field-requires
+    put-count-requires
+    put-count-requires-2
+    same-length
+    returns-2)

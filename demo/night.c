@@ -1,0 +1,115 @@
+/* The night run of a reef tank's controller: check, order, judge, then a day of the twin. */
+#include <stdio.h>
+#include <stdlib.h>
+#include <string.h>
+#include "../include/oorlichday.h"
+#include "tank.h"
+
+enum { MINUTES = 1440 };
+
+static unsigned passed, failed;
+static int32_t right_curve[MINUTES], version_one_curve[MINUTES];
+
+static void expect(int condition, const char *what)
+{
+    printf("%s ... %s\n", what, condition ? "ok" : "FAILED");
+    if (condition)
+        passed++;
+    else
+        failed++;
+}
+
+/* What each number of a verdict means to the person at the panel. */
+static const char *in_words(uint32_t number)
+{
+    static const char *const words[] = {
+        "no such call", "call done before", "a delayed input is already set",
+        "a reactive input is not set", "its unit has not stepped", "a feeding input is not set",
+        "its source has not been got", "the order ended early",
+    };
+    return number >= 11 && number <= 18 ? words[number - 11] : "the table is not sound";
+}
+
+static uint32_t judge(const char *whose, const uint8_t *calls)
+{
+    uint32_t answer = oorlichday_verdict(tank_table, sizeof tank_table, calls, CALLS);
+    uint32_t number = oorlichday_number(answer), place = oorlichday_place(answer);
+    if (number == 0)
+        printf("%s passes.\n", whose);
+    else if (number == OORLICHDAY_ENDED || number < 11)
+        printf("%s is refused: number %u, %s.\n", whose, number, in_words(number));
+    else
+        printf("%s is refused: number %u at place %u, \"%s\": %s.\n", whose, number, place,
+               call_names[calls[place] % CALLS], in_words(number));
+    return number;
+}
+
+/* Version one: read all, set all, step all. */
+static void version_one(uint8_t *calls)
+{
+    size_t count = 0;
+    for (uint8_t call = UNITS; call < CALLS; call++)
+        calls[count++] = call;
+    for (uint8_t unit = 0; unit < UNITS; unit++)
+        calls[count++] = unit;
+}
+
+/* By how many minutes the second curve is best moved forward to lie on the first. */
+static int minutes_behind(void)
+{
+    int best = 0;
+    int64_t least = INT64_MAX;
+    for (int shift = 0; shift < 30; shift++) {
+        int64_t apart = 0;
+        for (int minute = 0; minute + 30 < MINUTES; minute++)
+            apart += llabs((long long)version_one_curve[minute + shift] - right_curve[minute]);
+        if (apart < least)
+            least = apart, best = shift;
+    }
+    return best;
+}
+
+int main(void)
+{
+    /* An installer's order: the oxygen is read before the water has moved. */
+    static const uint8_t installers[CALLS] = { 0, 6, 17, 1, 7, 2, 14, 8, 12, 13, 16,
+                                               4, 10, 20, 3, 9, 19, 18, 5, 11, 15 };
+    /* Another that keeps the rules, by hand. */
+    static const uint8_t by_hand[CALLS] = { 3, 9, 19, 2, 1, 7, 14, 8, 18, 16, 4,
+                                            10, 20, 0, 6, 17, 5, 12, 13, 11, 15 };
+    static uint8_t order[OORLICHDAY_ORDER_MAX], fixed[CALLS];
+    static struct twin right, other, old;
+    int alike = 1;
+    int32_t widest = 0;
+
+    expect(oorlichday_check(tank_table, sizeof tank_table) == CALLS, "the table is sound");
+    expect(oorlichday_order(tank_table, sizeof tank_table, order, sizeof order) == CALLS,
+           "it has an order");
+    for (unsigned place = 0; place < CALLS; place++)
+        printf("%2u  %s\n", place, call_names[order[place] % CALLS]);
+    version_one(fixed);
+    expect(judge("The order given", order) == 0, "the order given passes");
+    expect(judge("The order by hand", by_hand) == 0, "another order passes");
+    expect(memcmp(order, by_hand, CALLS) != 0, "the two differ");
+    expect(judge("The installer's order", installers) == 15, "the installer's is refused");
+    expect(judge("Version one's order", fixed) == 15, "version one's is refused");
+
+    twin_start(&right), twin_start(&other), twin_start(&old);
+    for (int minute = 0; minute < MINUTES; minute++) {
+        twin_run(&right, order, CALLS);
+        twin_run(&other, by_hand, CALLS);
+        twin_run(&old, fixed, CALLS);
+        alike = alike && memcmp(&right, &other, sizeof right) == 0;
+        right_curve[minute] = right.oxygen;
+        version_one_curve[minute] = old.oxygen;
+        if (abs(right.oxygen - old.oxygen) > widest)
+            widest = abs(right.oxygen - old.oxygen);
+        printf("curve %d %d %d\n", minute, right.oxygen, old.oxygen);
+    }
+    expect(alike, "both passed orders end alike at every step");
+    printf("Version one's curve runs %d minutes behind, at most %d micrograms a litre off.\n",
+           minutes_behind(), widest);
+    expect(minutes_behind() > 0, "version one's curve runs behind");
+    printf("%u passed, %u failed\n", passed, failed);
+    return failed != 0;
+}

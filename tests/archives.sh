@@ -1,0 +1,57 @@
+# Where the archives under test are, and what they export: sourced after machine.sh.
+# Sets KIND (proved, or plain for bench/plain's C versions), ARCHIVES (a folder), BUILD,
+# and the lists EXPORTS and ARCHIVE_NAMES.
+
+KIND=${1:-proved}
+BUILD=$ROOT/target/tests/$KIND
+mkdir -p "$BUILD"
+
+# The lines of tests/exports.txt that are switched on: archive, name.
+listed() {
+    grep -v '^#' "$ROOT/tests/exports.txt"
+}
+
+archive_of() {
+    listed | awk -v name="$1" '$2 == name { print $1 }'
+}
+
+exports_of() {
+    listed | awk -v archive="$1" '$1 == archive { print "oorlichday_" $2 }' | sort
+}
+
+mapfile -t EXPORTS < <(listed | awk '{ print $2 }')
+mapfile -t ARCHIVE_NAMES < <(listed | awk '{ print $1 }' | sort -u)
+
+# The plain C versions: libplain.a under their own names, libnamed.a under the library's.
+build_plain() {
+    local source name rename=()
+    for name in check order verdict read list line names pack packed_length; do
+        rename+=(--redefine-sym "plain_$name=oorlichday_$name")
+    done
+    mkdir -p "$ROOT/target/tests/plain"
+    (
+        cd "$ROOT/target/tests/plain"
+        rm -f ./*.a ./*.o
+        for source in "$ROOT"/bench/plain/*.c; do
+            name=$(basename "$source" .c)
+            "$CC" -std=c11 -O2 -Wall -Wextra -Werror -c "$source" -o "plain_$name.o"
+            "$OBJCOPY" "${rename[@]}" "plain_$name.o" "named_$name.o"
+        done
+        "$AR" rcs libplain.a plain_*.o
+        "$AR" rcs libnamed.a named_*.o
+    )
+}
+
+case $KIND in
+proved) ARCHIVES=$ROOT/target/staticlib ;;
+plain)
+    ARCHIVES=$ROOT/target/tests/plain
+    EXPORTS=(check order verdict read list)
+    archive_of() { echo named; }
+    build_plain
+    ;;
+*)
+    echo "usage: $0 [proved|plain]" >&2
+    exit 2
+    ;;
+esac
