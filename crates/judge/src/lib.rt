@@ -13,6 +13,7 @@ use table::parts::output_count;
 use table::parts::unit_count;
 
 mod conditions;
+pub mod records;
 
 // Which call numbers below 224 are done.
 pub struct Run {

@@ -1,36 +1,27 @@
+-- one law for each answer: another unit, another kind, the mark
 use borrow.Author.Needs.{needs}
 use Rattle.judge.proofs.conditions.amiss.Statement.{statement}
 use Rattle.judge.proofs.conditions.amiss.Tie as tie
-use Rattle.judge.proofs.conditions.amiss.Reads as reads
-use Rattle.judge.proofs.conditions.amiss.Lts as lts
-use Rattle.judge.proofs.conditions.marked.Reads as marked-reads
 use Rattle.judge.proofs.Scanning.{amiss-other, amiss-kind, amiss-mark}
 
--- src/conditions.rt:45:8
 shared-slice-read-if1 : tie.Need-shared-slice-read-if1
 shared-slice-read-if1 c = search needs
 
--- src/conditions.rt:46:9
 returns : tie.Need-returns
 returns c = amiss-other _ _ _ _ _ _ _ (c .if1 .taken)
 
--- src/conditions.rt:48:16
 shared-slice-read-kind : tie.Need-shared-slice-read-kind
 shared-slice-read-kind c = search needs
 
--- src/conditions.rt:50:9
 returns-2 : tie.Need-returns-2
 returns-2 c = amiss-kind _ _ _ _ _ _ _ (c .before .before .if1 .left) (c .if2 .taken)
 
--- src/conditions.rt:52:18
 add-marked : tie.Need-add-marked
 add-marked c = search needs
 
--- src/conditions.rt:52:5
 marked-requires : tie.Need-marked-requires
 marked-requires c κs = search needs
 
--- src/conditions.rt:27:1
 returns-3 : tie.Need-returns-3
 returns-3 c = amiss-mark _ _ _ _ _ _ _ (c .before .before .before .if1 .left) (c .before .if2 .left) _ (c .marked .ensures)
 

@@ -1,8 +1,6 @@
+-- no input passed so far stands in the way
 use Rattle.judge.proofs.conditions.some_amiss.Statement.{statement}
 use Rattle.judge.proofs.conditions.some_amiss.Tie as tie
-use Rattle.judge.proofs.conditions.some_amiss.Reads as reads
-use Rattle.judge.proofs.conditions.some_amiss.Lts as lts
-use Rattle.judge.proofs.conditions.amiss.Reads as amiss-reads
 use borrow.Author.Needs.{needs}
 use Prim.Native.Nat.{ℕ, _≤_, _<_, _-_}
 use mathlib.Core.Bool.{not}
@@ -20,31 +18,24 @@ Inv-loop owners kinds done first unit most x₀ x = (x ≤ length owners) × ((i
 abbrev μ-loop : tie.MeasureT-loop
 μ-loop owners kinds done first unit most x₀ x = length owners - x
 
--- src/conditions.rt:75:5
 loop-holds : tie.Need-loop-holds Inv-loop μ-loop
 loop-holds c = (search needs, λ i h. absurd (omega arith))
 
--- src/conditions.rt:76:12
 amiss-requires : tie.Need-amiss-requires Inv-loop μ-loop
 amiss-requires c κs = search needs
 
--- src/conditions.rt:77:13
 returns : tie.Need-returns Inv-loop μ-loop
 returns c = some-yes _ _ _ (c .before .before .loop-test .taken) (says (c .before .amiss .ensures) (c .if1 .taken))
 
--- src/conditions.rt:79:9
 add-x : tie.Need-add-x Inv-loop μ-loop
 add-x c = search needs
 
--- src/conditions.rt:75:5
 loop-less : tie.Need-loop-less Inv-loop μ-loop
 loop-less c = search needs
 
--- src/conditions.rt:75:5
 loop-again : tie.Need-loop-again Inv-loop μ-loop
 loop-again c = (search needs, below-more _ _ (c .before .before .before .loop .inv .1) (denies (c .before .amiss .ensures) (c .if1 .left)))
 
--- src/conditions.rt:56:1
 returns-2 : tie.Need-returns-2 Inv-loop μ-loop
 returns-2 c = some-no _ _ _ (c .loop-test .left) (c .before .loop .inv .1)
 

@@ -1,8 +1,6 @@
+-- no pair passed so far feeds the output from an input that is not set
 use Rattle.judge.proofs.conditions.some_lacking.Statement.{statement}
 use Rattle.judge.proofs.conditions.some_lacking.Tie as tie
-use Rattle.judge.proofs.conditions.some_lacking.Reads as reads
-use Rattle.judge.proofs.conditions.some_lacking.Lts as lts
-use Rattle.judge.proofs.conditions.lacking.Reads as lacking-reads
 use borrow.Author.Needs.{needs}
 use Prim.Native.Nat.{ℕ, _≤_, _<_, _-_}
 use mathlib.Core.Bool.{not}
@@ -19,31 +17,24 @@ Inv-loop pairs done first output f k₀ k = (k ≤ f) × ((i : ℕ) → i < k �
 abbrev μ-loop : tie.MeasureT-loop
 μ-loop pairs done first output f k₀ k = f - k
 
--- src/conditions.rt:103:5
 loop-holds : tie.Need-loop-holds Inv-loop μ-loop
 loop-holds c = (search needs, λ i h. absurd (omega arith))
 
--- src/conditions.rt:104:12
 lacking-requires : tie.Need-lacking-requires Inv-loop μ-loop
 lacking-requires c κs = search needs
 
--- src/conditions.rt:105:13
 returns : tie.Need-returns Inv-loop μ-loop
 returns c = some-yes _ _ _ (c .before .before .loop-test .taken) (says (c .before .lacking .ensures) (c .if1 .taken))
 
--- src/conditions.rt:107:9
 add-k : tie.Need-add-k Inv-loop μ-loop
 add-k c = search needs
 
--- src/conditions.rt:103:5
 loop-less : tie.Need-loop-less Inv-loop μ-loop
 loop-less c = search needs
 
--- src/conditions.rt:103:5
 loop-again : tie.Need-loop-again Inv-loop μ-loop
 loop-again c = (search needs, below-more _ _ (c .before .before .before .loop .inv .1) (denies (c .before .lacking .ensures) (c .if1 .left)))
 
--- src/conditions.rt:97:1
 returns-2 : tie.Need-returns-2 Inv-loop μ-loop
 returns-2 c = some-no _ _ _ (c .loop-test .left) (c .before .loop .inv .1)
 
