@@ -4,4 +4,5 @@ pub mod Draft
 pub mod Lines
 pub mod Reading
 pub mod Lexed
+pub mod Places
 pub mod Examples

@@ -1,0 +1,306 @@
+-- One declaration more in the notes is one more in the draft, and the notes still fit.
+use Prim.Native.Nat.{ℕ, _+_, _*_, _≤_, _<_}
+use mathlib.Core.Path.{_≡_, refl, sym, ap, _∙_}
+use mathlib.Core.List.{List, [], _∷_, _++_}
+use native.Mathlib.Omega.{arith}
+use native.Mathlib.Decide.{ℕ-discrete}
+use borrow.Author.Count.{below-more}
+use lib.ListN.{length, getD, set, length-set}
+use lib.Seq.{getD-set-same, getD-set-other}
+use Rattle.grammar.specs.Rows.{fieldAt}
+use Rattle.grammar.specs.Draft.{Draft, Output, Input, Feed, addUnit, addOutput, addInput, addFeed, addJoin, joined, noInput}
+use Rattle.notes.specs.Listed.{listed, listed-same, listed-more, listed-set, listed-at}
+use Rattle.notes.specs.declared.Counts.{Counts}
+use Rattle.notes.specs.Notes.{nameAt, outputAt, inputAt, feedAt, draftOf, Marked, Fit, Stands}
+use Rattle.notes.specs.Noted.{Kept, Noted}
+use Rattle.notes.proofs.Kept.{kept-all, kept-set, units-kept, outputs-kept, inputs-kept, feeds-kept, marked-kept}
+
+sums : (a b x n : ℕ) → n ≡ a + b → n + x ≡ a + (b + x)
+sums a b x n e = omega arith
+
+module _ (t p s : List ℕ) (c : Counts) (f : Fit t p s c) where
+  -- a unit more; its owner's slot is 0
+  module _ (q r : List ℕ) (b : ℕ) (h : c .units < 32) (n : Noted t p s q r (c .units) b 0) where
+    abbrev moreUnits : Counts
+    moreUnits = record { units = c .units + 1; outputs = c .outputs; inputs = c .inputs; feeds = c .feeds }
+
+    unit-fits : Fit t q r moreUnits
+    unit-fits = record {
+      places-long = n .places-long ∙ f .places-long;
+      slots-long = n .slots-long ∙ f .slots-long;
+      units-most = omega arith;
+      outputs-most = f .outputs-most;
+      inputs-most = f .inputs-most;
+      feeds-most = f .feeds-most;
+      units-marked = below-more _ _
+        (λ i g. n .others i (omega arith) (λ e. omega arith) (f .units-marked i g)) (n .marked);
+      units-free = below-more _ _
+        (λ i g. n .slots-kept (224 + i) (225 + i) (λ j a z e. omega arith) (λ j a z e. omega arith) .at (224 + i)
+          (omega arith) (omega arith) ∙ f .units-free i g)
+        (n .owner);
+      outputs-marked = λ i g. n .others (32 + i) (omega (arith, f .outputs-most)) (λ e. omega arith) (f .outputs-marked i g);
+      inputs-marked = λ i g. n .others (128 + i) (omega (arith, f .inputs-most)) (λ e. omega arith) (f .inputs-marked i g);
+    }
+
+    pub unit-noted : Stands t q r moreUnits (addUnit (draftOf t p s c) (fieldAt t b))
+    unfolding draftOf addUnit nameAt
+    unit-noted = record {
+      fit = unit-fits;
+      is = rw (
+        listed-more (nameAt t p) (nameAt t q) (c .units) (fieldAt t b)
+          (units-kept t p s q r (c .units) (n .places-kept 0 (c .units) (λ j a z e. omega arith)))
+          (ap (fieldAt t) (n .place)),
+        outputs-kept t p s q r (c .outputs)
+          (n .places-kept 32 (32 + c .outputs) (λ j a z e. omega arith))
+          (n .slots-kept 256 (256 + c .outputs) (λ j a z e. omega arith) (λ j a z e. omega arith)),
+        inputs-kept t p s q r (c .inputs)
+          (n .places-kept 128 (128 + c .inputs) (λ j a z e. omega arith))
+          (n .places-kept 224 (224 + c .inputs) (λ j a z e. omega arith))
+          (n .slots-kept 352 (352 + c .inputs) (λ j a z e. omega arith) (λ j a z e. omega arith))
+          (n .slots-kept 448 (448 + c .inputs) (λ j a z e. omega arith) (λ j a z e. omega arith))
+          (n .slots-kept 544 (544 + c .inputs) (λ j a z e. omega arith) (λ j a z e. omega arith)),
+        feeds-kept t p s q r (c .feeds)
+          (n .slots-kept 640 (640 + 2 * c .feeds) (λ j a z e. omega arith) (λ j a z e. omega arith)));
+    }
+
+  -- an output more, of unit u
+  module _ (q r : List ℕ) (b u : ℕ) (h : c .outputs < 96) (n : Noted t p s q r (32 + c .outputs) b u) where
+    abbrev moreOutputs : Counts
+    moreOutputs = record { units = c .units; outputs = c .outputs + 1; inputs = c .inputs; feeds = c .feeds }
+
+    output-fits : Fit t q r moreOutputs
+    output-fits = record {
+      places-long = n .places-long ∙ f .places-long;
+      slots-long = n .slots-long ∙ f .slots-long;
+      units-most = f .units-most;
+      outputs-most = omega arith;
+      inputs-most = f .inputs-most;
+      feeds-most = f .feeds-most;
+      units-marked = λ i g. n .others i (omega (arith, f .units-most)) (λ e. omega (arith, f .units-most)) (f .units-marked i g);
+      units-free = λ i g. n .slots-kept (224 + i) (225 + i) (λ j a z e. omega (arith, f .units-most)) (λ j a z e. omega (arith, f .units-most)) .at (224 + i)
+          (omega arith) (omega arith) ∙ f .units-free i g;
+      outputs-marked = below-more _ _
+        (λ i g. n .others (32 + i) (omega arith) (λ e. omega arith) (f .outputs-marked i g)) (n .marked);
+      inputs-marked = λ i g. n .others (128 + i) (omega (arith, f .inputs-most)) (λ e. omega arith) (f .inputs-marked i g);
+    }
+
+    pub output-noted : Stands t q r moreOutputs (addOutput (draftOf t p s c) (record { owner = u; name = fieldAt t b }))
+    unfolding draftOf addOutput outputAt nameAt
+    output-noted = record {
+      fit = output-fits;
+      is = rw (
+        units-kept t p s q r (c .units) (n .places-kept 0 (c .units) (λ j a z e. omega (arith, f .units-most))),
+        listed-more (outputAt t p s) (outputAt t q r) (c .outputs) (record { owner = u; name = fieldAt t b })
+          (outputs-kept t p s q r (c .outputs)
+            (n .places-kept 32 (32 + c .outputs) (λ j a z e. omega arith))
+            (n .slots-kept 256 (256 + c .outputs) (λ j a z e. omega arith) (λ j a z e. omega arith)))
+          (rw (n .place, ap (λ i. getD r i 0) (sums 224 32 (c .outputs) 256 (omega arith)), n .owner)),
+        inputs-kept t p s q r (c .inputs)
+          (n .places-kept 128 (128 + c .inputs) (λ j a z e. omega arith))
+          (n .places-kept 224 (224 + c .inputs) (λ j a z e. omega arith))
+          (n .slots-kept 352 (352 + c .inputs) (λ j a z e. omega arith) (λ j a z e. omega arith))
+          (n .slots-kept 448 (448 + c .inputs) (λ j a z e. omega arith) (λ j a z e. omega arith))
+          (n .slots-kept 544 (544 + c .inputs) (λ j a z e. omega arith) (λ j a z e. omega arith)),
+        feeds-kept t p s q r (c .feeds)
+          (n .slots-kept 640 (640 + 2 * c .feeds) (λ j a z e. omega arith) (λ j a z e. omega arith)));
+    }
+
+  -- an input more, of unit u: its name, then its kind, its line and that it is not joined
+  module _ (q r : List ℕ) (b u kind line : ℕ) (h : c .inputs < 96) (n : Noted t p s q r (128 + c .inputs) b u) where
+    abbrev moreInputs : Counts
+    moreInputs = record { units = c .units; outputs = c .outputs; inputs = c .inputs + 1; feeds = c .feeds }
+
+    abbrev lined : List ℕ
+    lined = set q (224 + c .inputs) line
+
+    abbrev kinded : List ℕ
+    kinded = set (set r (448 + c .inputs) kind) (544 + c .inputs) 255
+
+    places-stay : (a e : ℕ) → ((i : ℕ) → a ≤ i → i < e → i ≡ 128 + c .inputs → ⊥)
+        → ((i : ℕ) → a ≤ i → i < e → i ≡ 224 + c .inputs → ⊥) → Kept a e p lined
+    places-stay a e i j = kept-set (224 + c .inputs) line (n .places-kept a e i) j
+
+    slots-stay : (a e : ℕ) → ((i : ℕ) → a ≤ i → i < e → i ≡ 128 + c .inputs → ⊥)
+        → ((i : ℕ) → a ≤ i → i < e → i ≡ 224 + (128 + c .inputs) → ⊥)
+        → ((i : ℕ) → a ≤ i → i < e → i ≡ 448 + c .inputs → ⊥)
+        → ((i : ℕ) → a ≤ i → i < e → i ≡ 544 + c .inputs → ⊥) → Kept a e s kinded
+    slots-stay a e i j k l =
+        kept-set (544 + c .inputs) 255 (kept-set (448 + c .inputs) kind (n .slots-kept a e i j) k) l
+
+    -- marks of the names after the name was noted
+    marks-stay : (i : ℕ) → i < 224 → Marked t q r i → Marked t lined kinded i
+    marks-stay i g =
+        marked-kept t q r lined kinded i
+        (kept-set (224 + c .inputs) line kept-all (λ j a z e. omega arith))
+        (kept-set (544 + c .inputs) 255 (kept-set (448 + c .inputs) kind kept-all (λ j a z e. omega arith)) (λ j a z e. omega arith))
+        (kept-set (544 + c .inputs) 255 (kept-set (448 + c .inputs) kind kept-all (λ j a z e. omega arith)) (λ j a z e. omega arith))
+
+    kinded-long : length kinded ≡ 896
+    kinded-long =
+        length-set (set r (448 + c .inputs) kind) (544 + c .inputs) 255 ∙ length-set r (448 + c .inputs) kind
+        ∙ n .slots-long ∙ f .slots-long
+
+    input-fits : Fit t lined kinded moreInputs
+    input-fits = record {
+      places-long = length-set q (224 + c .inputs) line ∙ n .places-long ∙ f .places-long;
+      slots-long = kinded-long;
+      units-most = f .units-most;
+      outputs-most = f .outputs-most;
+      inputs-most = omega arith;
+      feeds-most = f .feeds-most;
+      units-marked = λ i g. marks-stay i (omega (arith, f .units-most))
+        (n .others i (omega (arith, f .units-most)) (λ e. omega (arith, f .units-most)) (f .units-marked i g));
+      units-free = λ i g. slots-stay (224 + i) (225 + i) (λ j a z e. omega (arith, f .units-most)) (λ j a z e. omega (arith, f .units-most))
+          (λ j a z e. omega (arith, f .units-most)) (λ j a z e. omega (arith, f .units-most)) .at (224 + i)
+          (omega arith) (omega arith) ∙ f .units-free i g;
+      outputs-marked = λ i g. marks-stay (32 + i) (omega (arith, f .outputs-most))
+        (n .others (32 + i) (omega (arith, f .outputs-most)) (λ e. omega (arith, f .outputs-most)) (f .outputs-marked i g));
+      inputs-marked = below-more _ _
+        (λ i g. marks-stay (128 + i) (omega arith) (n .others (128 + i) (omega arith) (λ e. omega arith) (f .inputs-marked i g)))
+        (marks-stay (128 + c .inputs) (omega arith) (n .marked));
+    }
+
+    input-is : inputAt t lined kinded (c .inputs)
+        ≡ record { owner = u; name = fieldAt t b; kind = kind; source = 255; line = line }
+    unfolding inputAt nameAt
+    input-is =
+        let x = c .inputs in
+        let k = set r (448 + x) kind in
+        let long : length k ≡ 896 = length-set r (448 + x) kind ∙ n .slots-long ∙ f .slots-long in
+        let room : length q ≡ 320 = n .places-long ∙ f .places-long in
+        let wide : length r ≡ 896 = n .slots-long ∙ f .slots-long in
+        rw (
+          getD-set-other q (224 + x) (128 + x) line 0 (λ e. omega arith), n .place,
+          getD-set-other k (544 + x) (352 + x) 255 0 (λ e. omega arith),
+          getD-set-other r (448 + x) (352 + x) kind 0 (λ e. omega arith),
+          ap (λ i. getD r i 0) (sums 224 128 x 352 (omega arith)), n .owner,
+          getD-set-other k (544 + x) (448 + x) 255 0 (λ e. omega arith),
+          getD-set-same r (448 + x) kind 0 (omega arith),
+          getD-set-same k (544 + x) 255 0 (omega arith),
+          getD-set-same q (224 + x) line 0 (omega arith))
+
+    pub input-noted : Stands t lined kinded moreInputs
+        (addInput (draftOf t p s c) (record { owner = u; name = fieldAt t b; kind = kind; source = 255; line = line }))
+    unfolding draftOf addInput
+    input-noted = record {
+      fit = input-fits;
+      is = rw (
+        units-kept t p s lined kinded (c .units)
+          (places-stay 0 (c .units) (λ j a z e. omega (arith, f .units-most)) (λ j a z e. omega (arith, f .units-most))),
+        outputs-kept t p s lined kinded (c .outputs)
+          (places-stay 32 (32 + c .outputs) (λ j a z e. omega (arith, f .outputs-most)) (λ j a z e. omega (arith, f .outputs-most)))
+          (slots-stay 256 (256 + c .outputs) (λ j a z e. omega (arith, f .outputs-most)) (λ j a z e. omega (arith, f .outputs-most))
+            (λ j a z e. omega (arith, f .outputs-most)) (λ j a z e. omega (arith, f .outputs-most))),
+        listed-more (inputAt t p s) (inputAt t lined kinded) (c .inputs)
+          (record { owner = u; name = fieldAt t b; kind = kind; source = 255; line = line })
+          (inputs-kept t p s lined kinded (c .inputs)
+            (places-stay 128 (128 + c .inputs) (λ j a z e. omega arith) (λ j a z e. omega arith))
+            (places-stay 224 (224 + c .inputs) (λ j a z e. omega arith) (λ j a z e. omega arith))
+            (slots-stay 352 (352 + c .inputs) (λ j a z e. omega arith) (λ j a z e. omega arith) (λ j a z e. omega arith) (λ j a z e. omega arith))
+            (slots-stay 448 (448 + c .inputs) (λ j a z e. omega arith) (λ j a z e. omega arith) (λ j a z e. omega arith) (λ j a z e. omega arith))
+            (slots-stay 544 (544 + c .inputs) (λ j a z e. omega arith) (λ j a z e. omega arith) (λ j a z e. omega arith) (λ j a z e. omega arith)))
+          input-is,
+        feeds-kept t p s lined kinded (c .feeds)
+          (slots-stay 640 (640 + 2 * c .feeds) (λ j a z e. omega arith) (λ j a z e. omega arith) (λ j a z e. omega arith) (λ j a z e. omega arith)));
+    }
+
+  -- ---- slots behind the names alone
+  module _ (r : List ℕ) (long : length r ≡ 896) (k : Kept 0 448 s r) where
+    names-fit : (m : Counts) → m .units ≡ c .units → m .outputs ≡ c .outputs → m .inputs ≡ c .inputs
+        → m .feeds ≤ 128 → Fit t p r m
+    names-fit m a b d e = record {
+      places-long = f .places-long;
+      slots-long = long;
+      units-most = rw a (f .units-most);
+      outputs-most = rw b (f .outputs-most);
+      inputs-most = rw d (f .inputs-most);
+      feeds-most = e;
+      units-marked = λ i g. still i (omega (arith, f .units-most)) (f .units-marked i (omega arith));
+      units-free = λ i g. k .at (224 + i) (omega arith) (omega (arith, f .units-most)) ∙ f .units-free i (omega arith);
+      outputs-marked = λ i g. still (32 + i) (omega (arith, f .outputs-most)) (f .outputs-marked i (omega arith));
+      inputs-marked = λ i g. still (128 + i) (omega (arith, f .inputs-most)) (f .inputs-marked i (omega arith));
+    }
+      where
+        still : (i : ℕ) → i < 224 → Marked t p s i → Marked t p r i
+        still i h = marked-kept t p s p r i kept-all
+          (record { at = λ j a z. k .at j (omega arith) (omega arith) })
+          (record { at = λ j a z. k .at j (omega arith) (omega arith) })
+
+  -- a feed more
+  module _ (x y : ℕ) (h : c .feeds < 128) where
+    abbrev moreFeeds : Counts
+    moreFeeds = record { units = c .units; outputs = c .outputs; inputs = c .inputs; feeds = c .feeds + 1 }
+
+    abbrev fed : List ℕ
+    fed = set (set s (640 + 2 * c .feeds) x) (641 + 2 * c .feeds) y
+
+    fed-kept : (a e : ℕ) → e ≤ 640 + 2 * c .feeds → Kept a e s fed
+    fed-kept a e g =
+        kept-set (641 + 2 * c .feeds) y (kept-set (640 + 2 * c .feeds) x kept-all (λ i b z q. omega arith)) (λ i b z q. omega arith)
+
+    feed-is : feedAt fed (c .feeds) ≡ record { input = x; output = y }
+    unfolding feedAt
+    feed-is =
+        let k = 640 + 2 * c .feeds in
+        let long : length (set s k x) ≡ 896 = length-set s k x ∙ f .slots-long in
+        let wide : length s ≡ 896 = f .slots-long in
+        rw (
+          getD-set-other (set s k x) (641 + 2 * c .feeds) k y 0 (λ e. omega arith),
+          getD-set-same s k x 0 (omega arith),
+          getD-set-same (set s k x) (641 + 2 * c .feeds) y 0 (omega arith))
+
+    pub feed-noted : Stands t p fed moreFeeds (addFeed (draftOf t p s c) (record { input = x; output = y }))
+    unfolding draftOf addFeed
+    feed-noted = record {
+      fit = names-fit fed
+        (length-set (set s (640 + 2 * c .feeds) x) (641 + 2 * c .feeds) y ∙ length-set s (640 + 2 * c .feeds) x ∙ f .slots-long)
+        (fed-kept 0 448 (omega arith)) moreFeeds refl refl refl (omega arith);
+      is = rw (
+        outputs-kept t p s p fed (c .outputs) kept-all (fed-kept 256 (256 + c .outputs) (omega (arith, f .outputs-most))),
+        inputs-kept t p s p fed (c .inputs) kept-all kept-all (fed-kept 352 (352 + c .inputs) (omega (arith, f .inputs-most)))
+          (fed-kept 448 (448 + c .inputs) (omega (arith, f .inputs-most))) (fed-kept 544 (544 + c .inputs) (omega (arith, f .inputs-most))),
+        listed-more (feedAt s) (feedAt fed) (c .feeds) (record { input = x; output = y })
+          (feeds-kept t p s p fed (c .feeds) (fed-kept 640 (640 + 2 * c .feeds) (omega arith))) feed-is);
+    }
+
+  -- input x joined to output y
+  module _ (x y : ℕ) (h : x < c .inputs) where
+    abbrev sourced : List ℕ
+    sourced = set s (544 + x) y
+
+    sourced-kept : (a e : ℕ) → ((i : ℕ) → a ≤ i → i < e → i ≡ 544 + x → ⊥) → Kept a e s sourced
+    sourced-kept a e n = kept-set (544 + x) y kept-all n
+
+    join-here : inputAt t p sourced x ≡ joined (getD (listed (inputAt t p s) (c .inputs)) x noInput) y
+    unfolding joined inputAt
+    join-here =
+        let long : length s ≡ 896 = f .slots-long in
+        let most : c .inputs ≤ 96 = f .inputs-most in
+        rw (
+          listed-at (inputAt t p s) (c .inputs) x noInput h,
+          getD-set-other s (544 + x) (352 + x) y 0 (λ e. omega arith),
+          getD-set-other s (544 + x) (448 + x) y 0 (λ e. omega arith),
+          getD-set-same s (544 + x) y 0 (omega arith))
+
+    join-there : (i : ℕ) → i < c .inputs → (i ≡ x → ⊥) → inputAt t p sourced i ≡ inputAt t p s i
+    unfolding inputAt
+    join-there i g n = 
+        let most : c .inputs ≤ 96 = f .inputs-most in
+        rw (
+          getD-set-other s (544 + x) (352 + i) y 0 (λ e. omega arith),
+          getD-set-other s (544 + x) (448 + i) y 0 (λ e. omega arith),
+          getD-set-other s (544 + x) (544 + i) y 0 (λ e. n (omega arith)))
+
+    pub join-noted : Stands t p sourced c (addJoin (draftOf t p s c) x y)
+    unfolding draftOf addJoin
+    join-noted =
+        let most : c .inputs ≤ 96 = f .inputs-most in
+        record {
+      fit = names-fit sourced (length-set s (544 + x) y ∙ f .slots-long)
+        (sourced-kept 0 448 (λ i a z e. omega arith)) c refl refl refl (f .feeds-most);
+      is = rw (
+        outputs-kept t p s p sourced (c .outputs) kept-all (sourced-kept 256 (256 + c .outputs) (λ i a z e. omega (arith, f .outputs-most))),
+        listed-set (inputAt t p s) (inputAt t p sourced) (c .inputs) x
+          (joined (getD (listed (inputAt t p s) (c .inputs)) x noInput) y) h join-here join-there,
+        feeds-kept t p s p sourced (c .feeds) (sourced-kept 640 (640 + 2 * c .feeds) (λ i a z e. omega arith)));
+    }

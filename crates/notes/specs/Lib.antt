@@ -1,0 +1,4 @@
+pub mod Mark
+pub mod Listed
+pub mod Notes
+pub mod Noted

@@ -1,0 +1,10 @@
+pub mod Shape
+pub mod Outcomes
+pub mod Declared
+pub mod Wired
+pub mod Keywords
+pub mod Checks
+pub mod Going
+pub mod Noticing
+pub mod Packing
+pub mod Answers

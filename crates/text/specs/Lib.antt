@@ -1,0 +1,3 @@
+pub mod Took
+pub mod Walked
+pub mod Packs

@@ -1,0 +1,51 @@
+// Reading a text table.
+ghost use lib.ListN.{length};
+ghost use Rattle.grammar.specs.Reading.{reading};
+ghost use Rattle.text.specs.Walked.{Answered};
+mod names;
+mod draft;
+mod lines;
+mod whole;
+mod walk;
+mod noting;
+mod pack;
+use notes::Counts;
+
+// The number of a line's refusal, or 0, and what has been noted after it.
+pub struct Taken {
+    pub number: u8,
+    pub counts: Counts,
+}
+
+// A refusal's number with its place, or 0, and what has been noted.
+pub struct Noted {
+    pub number: u8,
+    pub place: usize,
+    pub counts: Counts,
+}
+
+// 0 and the packed length, or the number of a refusal and its line.
+pub struct Answer {
+    pub number: u8,
+    pub place: usize,
+}
+
+// Reads a text of any bytes into a packed table, at the front of a buffer of any size.
+pub fn read(text: &[u8], out: &mut [u8]) -> Answer
+    ensures { λ r. ⌜ Answered (reading (length (now (out .entry))) (now (text .entry))) (now (out .entry)) (now (out .exit)) r ⌝ }
+{
+    let mut places = [0u16; 320];
+    let mut slots = [0u8; 896];
+    let noted = noting::note(text, &mut places, &mut slots);
+    let number = noted.number;
+    if number != 0 {
+        return Answer { number: number, place: noted.place };
+    }
+    let counts = noted.counts;
+    let size = pack::size(counts);
+    if out.len() < size {
+        return Answer { number: 34, place: 0 };
+    }
+    pack::pack(&slots, counts, out);
+    Answer { number: 0, place: size }
+}

@@ -1,0 +1,36 @@
+// The lines below the first, one after the other.
+ghost use mathlib.Core.Path.{_≡_};
+ghost use Prim.Native.Nat.{_≤_};
+ghost use lib.ListN.{length, drop};
+ghost use Rattle.grammar.specs.Rows.{rows};
+ghost use Rattle.grammar.specs.Draft.{blank};
+ghost use Rattle.grammar.specs.Reading.{linesFrom};
+ghost use Rattle.text.specs.Walked.{Ended, Walked};
+use notes::Counts;
+use crate::names;
+use crate::lines;
+use crate::Noted;
+
+// Notes the lines from place a on, of which the first is line 2, until one is refused.
+pub fn walk(text: &[u8], places: &mut [u16; 320], slots: &mut [u8; 896], a: usize) -> Noted
+    requires { ⌜ Ended (now text) ⌝ }
+    requires { ⌜ (length (now places) ≡ 320) × (length (now slots) ≡ 896) ⌝ }
+    requires { ⌜ a ≤ length (now text) ⌝ }
+    ensures { λ r. ⌜ Walked (now (text .entry)) (now (places .exit)) (now (slots .exit)) r (λ room. linesFrom room blank 2 (rows (drop a (now (text .entry))))) ⌝ }
+{
+    let mut counts = Counts { units: 0, outputs: 0, inputs: 0, feeds: 0 };
+    let mut at = a;
+    let mut number = 2;
+    while at < text.len() {
+        let fields = fields::fields_at(text, at);
+        let taken = lines::line(text, places, slots, counts, at, fields, number);
+        let bad = taken.number;
+        counts = taken.counts;
+        if bad != 0 {
+            return Noted { number: bad, place: number, counts: counts };
+        }
+        at = names::wide(fields.next);
+        number += 1;
+    }
+    Noted { number: 0, place: number, counts: counts }
+}
