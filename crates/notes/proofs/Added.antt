@@ -33,11 +33,11 @@ module _ (t p s : List ℕ) (c : Counts) (f : Fit t p s c) where
       inputs-most = f .inputs-most;
       feeds-most = f .feeds-most;
       units-marked = below-more _ _
-        (λ i g. n .others i (omega arith) (λ e. omega arith) (f .units-marked i g)) (n .marked);
+          (λ i g. n .others i (omega arith) (λ e. omega arith) (f .units-marked i g)) (n .marked);
       units-free = below-more _ _
-        (λ i g. n .slots-kept (224 + i) (225 + i) (λ j a z e. omega arith) (λ j a z e. omega arith) .at (224 + i)
+          (λ i g. n .slots-kept (224 + i) (225 + i) (λ j a z e. omega arith) (λ j a z e. omega arith) .at (224 + i)
           (omega arith) (omega arith) ∙ f .units-free i g)
-        (n .owner);
+          (n .owner);
       outputs-marked = λ i g. n .others (32 + i) (omega (arith, f .outputs-most)) (λ e. omega arith) (f .outputs-marked i g);
       inputs-marked = λ i g. n .others (128 + i) (omega (arith, f .inputs-most)) (λ e. omega arith) (f .inputs-marked i g);
     }
@@ -48,19 +48,20 @@ module _ (t p s : List ℕ) (c : Counts) (f : Fit t p s c) where
       fit = unit-fits;
       is = rw (
         listed-more (nameAt t p) (nameAt t q) (c .units) (fieldAt t b)
-          (units-kept t p s q r (c .units) (n .places-kept 0 (c .units) (λ j a z e. omega arith)))
-          (ap (fieldAt t) (n .place)),
+            (units-kept t p s q r (c .units) (n .places-kept 0 (c .units) (λ j a z e. omega arith)))
+            (ap (fieldAt t) (n .place)),
         outputs-kept t p s q r (c .outputs)
-          (n .places-kept 32 (32 + c .outputs) (λ j a z e. omega arith))
-          (n .slots-kept 256 (256 + c .outputs) (λ j a z e. omega arith) (λ j a z e. omega arith)),
+            (n .places-kept 32 (32 + c .outputs) (λ j a z e. omega arith))
+            (n .slots-kept 256 (256 + c .outputs) (λ j a z e. omega arith) (λ j a z e. omega arith)),
         inputs-kept t p s q r (c .inputs)
-          (n .places-kept 128 (128 + c .inputs) (λ j a z e. omega arith))
-          (n .places-kept 224 (224 + c .inputs) (λ j a z e. omega arith))
-          (n .slots-kept 352 (352 + c .inputs) (λ j a z e. omega arith) (λ j a z e. omega arith))
-          (n .slots-kept 448 (448 + c .inputs) (λ j a z e. omega arith) (λ j a z e. omega arith))
-          (n .slots-kept 544 (544 + c .inputs) (λ j a z e. omega arith) (λ j a z e. omega arith)),
+            (n .places-kept 128 (128 + c .inputs) (λ j a z e. omega arith))
+            (n .places-kept 224 (224 + c .inputs) (λ j a z e. omega arith))
+            (n .slots-kept 352 (352 + c .inputs) (λ j a z e. omega arith) (λ j a z e. omega arith))
+            (n .slots-kept 448 (448 + c .inputs) (λ j a z e. omega arith) (λ j a z e. omega arith))
+            (n .slots-kept 544 (544 + c .inputs) (λ j a z e. omega arith) (λ j a z e. omega arith)),
         feeds-kept t p s q r (c .feeds)
-          (n .slots-kept 640 (640 + 2 * c .feeds) (λ j a z e. omega arith) (λ j a z e. omega arith)));
+            (n .slots-kept 640 (640 + 2 * c .feeds) (λ j a z e. omega arith) (λ j a z e. omega arith)),
+      );
     }
 
   -- an output more, of unit u
@@ -80,7 +81,7 @@ module _ (t p s : List ℕ) (c : Counts) (f : Fit t p s c) where
       units-free = λ i g. n .slots-kept (224 + i) (225 + i) (λ j a z e. omega (arith, f .units-most)) (λ j a z e. omega (arith, f .units-most)) .at (224 + i)
           (omega arith) (omega arith) ∙ f .units-free i g;
       outputs-marked = below-more _ _
-        (λ i g. n .others (32 + i) (omega arith) (λ e. omega arith) (f .outputs-marked i g)) (n .marked);
+          (λ i g. n .others (32 + i) (omega arith) (λ e. omega arith) (f .outputs-marked i g)) (n .marked);
       inputs-marked = λ i g. n .others (128 + i) (omega (arith, f .inputs-most)) (λ e. omega arith) (f .inputs-marked i g);
     }
 
@@ -91,18 +92,19 @@ module _ (t p s : List ℕ) (c : Counts) (f : Fit t p s c) where
       is = rw (
         units-kept t p s q r (c .units) (n .places-kept 0 (c .units) (λ j a z e. omega (arith, f .units-most))),
         listed-more (outputAt t p s) (outputAt t q r) (c .outputs) (record { owner = u; name = fieldAt t b })
-          (outputs-kept t p s q r (c .outputs)
+            (outputs-kept t p s q r (c .outputs)
             (n .places-kept 32 (32 + c .outputs) (λ j a z e. omega arith))
             (n .slots-kept 256 (256 + c .outputs) (λ j a z e. omega arith) (λ j a z e. omega arith)))
-          (rw (n .place, ap (λ i. getD r i 0) (sums 224 32 (c .outputs) 256 (omega arith)), n .owner)),
+            (rw (n .place, ap (λ i. getD r i 0) (sums 224 32 (c .outputs) 256 (omega arith)), n .owner)),
         inputs-kept t p s q r (c .inputs)
-          (n .places-kept 128 (128 + c .inputs) (λ j a z e. omega arith))
-          (n .places-kept 224 (224 + c .inputs) (λ j a z e. omega arith))
-          (n .slots-kept 352 (352 + c .inputs) (λ j a z e. omega arith) (λ j a z e. omega arith))
-          (n .slots-kept 448 (448 + c .inputs) (λ j a z e. omega arith) (λ j a z e. omega arith))
-          (n .slots-kept 544 (544 + c .inputs) (λ j a z e. omega arith) (λ j a z e. omega arith)),
+            (n .places-kept 128 (128 + c .inputs) (λ j a z e. omega arith))
+            (n .places-kept 224 (224 + c .inputs) (λ j a z e. omega arith))
+            (n .slots-kept 352 (352 + c .inputs) (λ j a z e. omega arith) (λ j a z e. omega arith))
+            (n .slots-kept 448 (448 + c .inputs) (λ j a z e. omega arith) (λ j a z e. omega arith))
+            (n .slots-kept 544 (544 + c .inputs) (λ j a z e. omega arith) (λ j a z e. omega arith)),
         feeds-kept t p s q r (c .feeds)
-          (n .slots-kept 640 (640 + 2 * c .feeds) (λ j a z e. omega arith) (λ j a z e. omega arith)));
+            (n .slots-kept 640 (640 + 2 * c .feeds) (λ j a z e. omega arith) (λ j a z e. omega arith)),
+      );
     }
 
   -- an input more, of unit u: its name, then its kind, its line and that it is not joined
@@ -149,15 +151,15 @@ module _ (t p s : List ℕ) (c : Counts) (f : Fit t p s c) where
       inputs-most = omega arith;
       feeds-most = f .feeds-most;
       units-marked = λ i g. marks-stay i (omega (arith, f .units-most))
-        (n .others i (omega (arith, f .units-most)) (λ e. omega (arith, f .units-most)) (f .units-marked i g));
+          (n .others i (omega (arith, f .units-most)) (λ e. omega (arith, f .units-most)) (f .units-marked i g));
       units-free = λ i g. slots-stay (224 + i) (225 + i) (λ j a z e. omega (arith, f .units-most)) (λ j a z e. omega (arith, f .units-most))
           (λ j a z e. omega (arith, f .units-most)) (λ j a z e. omega (arith, f .units-most)) .at (224 + i)
           (omega arith) (omega arith) ∙ f .units-free i g;
       outputs-marked = λ i g. marks-stay (32 + i) (omega (arith, f .outputs-most))
-        (n .others (32 + i) (omega (arith, f .outputs-most)) (λ e. omega (arith, f .outputs-most)) (f .outputs-marked i g));
+          (n .others (32 + i) (omega (arith, f .outputs-most)) (λ e. omega (arith, f .outputs-most)) (f .outputs-marked i g));
       inputs-marked = below-more _ _
-        (λ i g. marks-stay (128 + i) (omega arith) (n .others (128 + i) (omega arith) (λ e. omega arith) (f .inputs-marked i g)))
-        (marks-stay (128 + c .inputs) (omega arith) (n .marked));
+          (λ i g. marks-stay (128 + i) (omega arith) (n .others (128 + i) (omega arith) (λ e. omega arith) (f .inputs-marked i g)))
+          (marks-stay (128 + c .inputs) (omega arith) (n .marked));
     }
 
     input-is : inputAt t lined kinded (c .inputs)
@@ -170,14 +172,17 @@ module _ (t p s : List ℕ) (c : Counts) (f : Fit t p s c) where
         let room : length q ≡ 320 = n .places-long ∙ f .places-long in
         let wide : length r ≡ 896 = n .slots-long ∙ f .slots-long in
         rw (
-          getD-set-other q (224 + x) (128 + x) line 0 (λ e. omega arith), n .place,
+          getD-set-other q (224 + x) (128 + x) line 0 (λ e. omega arith),
+          n .place,
           getD-set-other k (544 + x) (352 + x) 255 0 (λ e. omega arith),
           getD-set-other r (448 + x) (352 + x) kind 0 (λ e. omega arith),
-          ap (λ i. getD r i 0) (sums 224 128 x 352 (omega arith)), n .owner,
+          ap (λ i. getD r i 0) (sums 224 128 x 352 (omega arith)),
+          n .owner,
           getD-set-other k (544 + x) (448 + x) 255 0 (λ e. omega arith),
           getD-set-same r (448 + x) kind 0 (omega arith),
           getD-set-same k (544 + x) 255 0 (omega arith),
-          getD-set-same q (224 + x) line 0 (omega arith))
+          getD-set-same q (224 + x) line 0 (omega arith),
+        )
 
     pub input-noted : Stands t lined kinded moreInputs
         (addInput (draftOf t p s c) (record { owner = u; name = fieldAt t b; kind = kind; source = 255; line = line }))
@@ -186,22 +191,23 @@ module _ (t p s : List ℕ) (c : Counts) (f : Fit t p s c) where
       fit = input-fits;
       is = rw (
         units-kept t p s lined kinded (c .units)
-          (places-stay 0 (c .units) (λ j a z e. omega (arith, f .units-most)) (λ j a z e. omega (arith, f .units-most))),
+            (places-stay 0 (c .units) (λ j a z e. omega (arith, f .units-most)) (λ j a z e. omega (arith, f .units-most))),
         outputs-kept t p s lined kinded (c .outputs)
-          (places-stay 32 (32 + c .outputs) (λ j a z e. omega (arith, f .outputs-most)) (λ j a z e. omega (arith, f .outputs-most)))
-          (slots-stay 256 (256 + c .outputs) (λ j a z e. omega (arith, f .outputs-most)) (λ j a z e. omega (arith, f .outputs-most))
+            (places-stay 32 (32 + c .outputs) (λ j a z e. omega (arith, f .outputs-most)) (λ j a z e. omega (arith, f .outputs-most)))
+            (slots-stay 256 (256 + c .outputs) (λ j a z e. omega (arith, f .outputs-most)) (λ j a z e. omega (arith, f .outputs-most))
             (λ j a z e. omega (arith, f .outputs-most)) (λ j a z e. omega (arith, f .outputs-most))),
         listed-more (inputAt t p s) (inputAt t lined kinded) (c .inputs)
-          (record { owner = u; name = fieldAt t b; kind = kind; source = 255; line = line })
-          (inputs-kept t p s lined kinded (c .inputs)
+            (record { owner = u; name = fieldAt t b; kind = kind; source = 255; line = line })
+            (inputs-kept t p s lined kinded (c .inputs)
             (places-stay 128 (128 + c .inputs) (λ j a z e. omega arith) (λ j a z e. omega arith))
             (places-stay 224 (224 + c .inputs) (λ j a z e. omega arith) (λ j a z e. omega arith))
             (slots-stay 352 (352 + c .inputs) (λ j a z e. omega arith) (λ j a z e. omega arith) (λ j a z e. omega arith) (λ j a z e. omega arith))
             (slots-stay 448 (448 + c .inputs) (λ j a z e. omega arith) (λ j a z e. omega arith) (λ j a z e. omega arith) (λ j a z e. omega arith))
             (slots-stay 544 (544 + c .inputs) (λ j a z e. omega arith) (λ j a z e. omega arith) (λ j a z e. omega arith) (λ j a z e. omega arith)))
-          input-is,
+            input-is,
         feeds-kept t p s lined kinded (c .feeds)
-          (slots-stay 640 (640 + 2 * c .feeds) (λ j a z e. omega arith) (λ j a z e. omega arith) (λ j a z e. omega arith) (λ j a z e. omega arith)));
+            (slots-stay 640 (640 + 2 * c .feeds) (λ j a z e. omega arith) (λ j a z e. omega arith) (λ j a z e. omega arith) (λ j a z e. omega arith)),
+      );
     }
 
   -- ---- slots behind the names alone
@@ -223,8 +229,8 @@ module _ (t p s : List ℕ) (c : Counts) (f : Fit t p s c) where
       where
         still : (i : ℕ) → i < 224 → Marked t p s i → Marked t p r i
         still i h = marked-kept t p s p r i kept-all
-          (record { at = λ j a z. k .at j (omega arith) (omega arith) })
-          (record { at = λ j a z. k .at j (omega arith) (omega arith) })
+            (record { at = λ j a z. k .at j (omega arith) (omega arith) })
+            (record { at = λ j a z. k .at j (omega arith) (omega arith) })
 
   -- a feed more
   module _ (x y : ℕ) (h : c .feeds < 128) where
@@ -247,20 +253,22 @@ module _ (t p s : List ℕ) (c : Counts) (f : Fit t p s c) where
         rw (
           getD-set-other (set s k x) (641 + 2 * c .feeds) k y 0 (λ e. omega arith),
           getD-set-same s k x 0 (omega arith),
-          getD-set-same (set s k x) (641 + 2 * c .feeds) y 0 (omega arith))
+          getD-set-same (set s k x) (641 + 2 * c .feeds) y 0 (omega arith),
+        )
 
     pub feed-noted : Stands t p fed moreFeeds (addFeed (draftOf t p s c) (record { input = x; output = y }))
     unfolding draftOf addFeed
     feed-noted = record {
       fit = names-fit fed
-        (length-set (set s (640 + 2 * c .feeds) x) (641 + 2 * c .feeds) y ∙ length-set s (640 + 2 * c .feeds) x ∙ f .slots-long)
-        (fed-kept 0 448 (omega arith)) moreFeeds refl refl refl (omega arith);
+          (length-set (set s (640 + 2 * c .feeds) x) (641 + 2 * c .feeds) y ∙ length-set s (640 + 2 * c .feeds) x ∙ f .slots-long)
+          (fed-kept 0 448 (omega arith)) moreFeeds refl refl refl (omega arith);
       is = rw (
         outputs-kept t p s p fed (c .outputs) kept-all (fed-kept 256 (256 + c .outputs) (omega (arith, f .outputs-most))),
         inputs-kept t p s p fed (c .inputs) kept-all kept-all (fed-kept 352 (352 + c .inputs) (omega (arith, f .inputs-most)))
-          (fed-kept 448 (448 + c .inputs) (omega (arith, f .inputs-most))) (fed-kept 544 (544 + c .inputs) (omega (arith, f .inputs-most))),
+            (fed-kept 448 (448 + c .inputs) (omega (arith, f .inputs-most))) (fed-kept 544 (544 + c .inputs) (omega (arith, f .inputs-most))),
         listed-more (feedAt s) (feedAt fed) (c .feeds) (record { input = x; output = y })
-          (feeds-kept t p s p fed (c .feeds) (fed-kept 640 (640 + 2 * c .feeds) (omega arith))) feed-is);
+            (feeds-kept t p s p fed (c .feeds) (fed-kept 640 (640 + 2 * c .feeds) (omega arith))) feed-is,
+      );
     }
 
   -- input x joined to output y
@@ -280,27 +288,30 @@ module _ (t p s : List ℕ) (c : Counts) (f : Fit t p s c) where
           listed-at (inputAt t p s) (c .inputs) x noInput h,
           getD-set-other s (544 + x) (352 + x) y 0 (λ e. omega arith),
           getD-set-other s (544 + x) (448 + x) y 0 (λ e. omega arith),
-          getD-set-same s (544 + x) y 0 (omega arith))
+          getD-set-same s (544 + x) y 0 (omega arith),
+        )
 
     join-there : (i : ℕ) → i < c .inputs → (i ≡ x → ⊥) → inputAt t p sourced i ≡ inputAt t p s i
     unfolding inputAt
-    join-there i g n = 
+    join-there i g n =
         let most : c .inputs ≤ 96 = f .inputs-most in
         rw (
           getD-set-other s (544 + x) (352 + i) y 0 (λ e. omega arith),
           getD-set-other s (544 + x) (448 + i) y 0 (λ e. omega arith),
-          getD-set-other s (544 + x) (544 + i) y 0 (λ e. n (omega arith)))
+          getD-set-other s (544 + x) (544 + i) y 0 (λ e. n (omega arith)),
+        )
 
     pub join-noted : Stands t p sourced c (addJoin (draftOf t p s c) x y)
     unfolding draftOf addJoin
     join-noted =
         let most : c .inputs ≤ 96 = f .inputs-most in
         record {
-      fit = names-fit sourced (length-set s (544 + x) y ∙ f .slots-long)
-        (sourced-kept 0 448 (λ i a z e. omega arith)) c refl refl refl (f .feeds-most);
-      is = rw (
-        outputs-kept t p s p sourced (c .outputs) kept-all (sourced-kept 256 (256 + c .outputs) (λ i a z e. omega (arith, f .outputs-most))),
-        listed-set (inputAt t p s) (inputAt t p sourced) (c .inputs) x
-          (joined (getD (listed (inputAt t p s) (c .inputs)) x noInput) y) h join-here join-there,
-        feeds-kept t p s p sourced (c .feeds) (sourced-kept 640 (640 + 2 * c .feeds) (λ i a z e. omega arith)));
-    }
+          fit = names-fit sourced (length-set s (544 + x) y ∙ f .slots-long)
+              (sourced-kept 0 448 (λ i a z e. omega arith)) c refl refl refl (f .feeds-most);
+          is = rw (
+            outputs-kept t p s p sourced (c .outputs) kept-all (sourced-kept 256 (256 + c .outputs) (λ i a z e. omega (arith, f .outputs-most))),
+            listed-set (inputAt t p s) (inputAt t p sourced) (c .inputs) x
+                (joined (getD (listed (inputAt t p s) (c .inputs)) x noInput) y) h join-here join-there,
+            feeds-kept t p s p sourced (c .feeds) (sourced-kept 640 (640 + 2 * c .feeds) (λ i a z e. omega arith)),
+          );
+        }

@@ -63,7 +63,7 @@ module _ (t p s : List ℕ) (c : Counts) (f : Fit t p s c) where
       (listed (outputAt t p s) (c .outputs)) (named t p s 32 u w) (c .outputs)
       (listed-length (outputAt t p s) (c .outputs))
       (λ i h. rw (listed-at (outputAt t p s) (c .outputs) i (record { owner = 0; name = [] }) h)
-        (ap (λ k. eqb (getD s k 0) u && same (nameAt t p (32 + i)) w) (sums 224 32 i 256 (omega arith)))))
+      (ap (λ k. eqb (getD s k 0) u && same (nameAt t p (32 + i)) w) (sums 224 32 i 256 (omega arith)))))
     where
       sums : (a b x n : ℕ) → n ≡ a + b → n + x ≡ a + (b + x)
       sums a b x n e = omega arith
@@ -76,7 +76,7 @@ module _ (t p s : List ℕ) (c : Counts) (f : Fit t p s c) where
       (listed (inputAt t p s) (c .inputs)) (named t p s 128 u w) (c .inputs)
       (listed-length (inputAt t p s) (c .inputs))
       (λ i h. rw (listed-at (inputAt t p s) (c .inputs) i noInput h)
-        (ap (λ k. eqb (getD s k 0) u && same (nameAt t p (128 + i)) w) (sums 224 128 i 352 (omega arith)))))
+      (ap (λ k. eqb (getD s k 0) u && same (nameAt t p (128 + i)) w) (sums 224 128 i 352 (omega arith)))))
     where
       sums : (a b x n : ℕ) → n ≡ a + b → n + x ≡ a + (b + x)
       sums a b x n e = omega arith

@@ -40,9 +40,13 @@ module _ (t p s q r : List ℕ) where
       → Kept 448 (448 + n) s r → Kept 544 (544 + n) s r → listed (inputAt t q r) n ≡ listed (inputAt t p s) n
   unfolding inputAt nameAt
   inputs-kept n a b c d e = listed-same (inputAt t q r) (inputAt t p s) n (λ x h.
-      rw (a .at (128 + x) (omega arith) (omega arith), b .at (224 + x) (omega arith) (omega arith),
-        c .at (352 + x) (omega arith) (omega arith), d .at (448 + x) (omega arith) (omega arith),
-        e .at (544 + x) (omega arith) (omega arith)))
+      rw (
+        a .at (128 + x) (omega arith) (omega arith),
+        b .at (224 + x) (omega arith) (omega arith),
+        c .at (352 + x) (omega arith) (omega arith),
+        d .at (448 + x) (omega arith) (omega arith),
+        e .at (544 + x) (omega arith) (omega arith),
+      ))
 
   pub feeds-kept : (n : ℕ) → Kept 640 (640 + 2 * n) s r → listed (feedAt r) n ≡ listed (feedAt s) n
   unfolding feedAt

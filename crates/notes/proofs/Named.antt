@@ -14,6 +14,7 @@ use Rattle.notes.proofs.Kept.{kept-all, kept-set, marked-kept}
 module _ (t p s : List ℕ) (k b m u : ℕ) (low : k < 224) (long : length p ≡ 320) (wide : length s ≡ 896) where
   abbrev q : List ℕ
   q = set p k b
+
   abbrev r : List ℕ
   r = set (set s k m) (224 + k) u
 
@@ -37,9 +38,9 @@ module _ (t p s : List ℕ) (k b m u : ℕ) (low : k < 224) (long : length p ≡
     owner = owner-is;
     marked = marked-is e;
     others = λ i h n. marked-kept t p s q r i
-      (kept-set k b kept-all (λ j a c e. n (omega arith)))
-      (kept-set (224 + k) u (kept-set k m kept-all (λ j a c e. n (omega arith))) (λ j a c e. omega arith))
-      (kept-set (224 + k) u (kept-set k m kept-all (λ j a c e. omega arith)) (λ j a c e. n (omega arith)));
+        (kept-set k b kept-all (λ j a c e. n (omega arith)))
+        (kept-set (224 + k) u (kept-set k m kept-all (λ j a c e. n (omega arith))) (λ j a c e. omega arith))
+        (kept-set (224 + k) u (kept-set k m kept-all (λ j a c e. omega arith)) (λ j a c e. n (omega arith)));
     places-long = length-set p k b;
     slots-long = length-set (set s k m) (224 + k) u ∙ length-set s k m;
     places-kept = λ a e n. kept-set k b kept-all n;

@@ -19,4 +19,4 @@ pub record Noted (t p s q r : List ℕ) (k b u : ℕ) : Type 0 where
   pub slots-long : length r ≡ length s
   pub places-kept : (a e : ℕ) → ((i : ℕ) → a ≤ i → i < e → i ≡ k → ⊥) → Kept a e p q
   pub slots-kept : (a e : ℕ) → ((i : ℕ) → a ≤ i → i < e → i ≡ k → ⊥)
-    → ((i : ℕ) → a ≤ i → i < e → i ≡ 224 + k → ⊥) → Kept a e s r
+      → ((i : ℕ) → a ≤ i → i < e → i ≡ 224 + k → ⊥) → Kept a e s r

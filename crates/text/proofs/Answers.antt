@@ -52,7 +52,7 @@ module _ (t p s : List ℕ) (r : Noted) (k : Noticed t p s r) (out : List ℕ) w
           let d = draftOf t p s (r .counts) in
           let i : size ≡ length (packed d) = e ∙ sym long in
           let a : Answered (reading (length out) t) out after (record { number = 0; place = length (packed d) })
-            = known _ (written d) out after
-              (k .left (length out) ∙ rw (z, le-ltb (length out) (length (packed d)) (omega arith)))
-              (q ∙ ap (λ b. fronted b out) (sym (packed-is t p s (r .counts) (k .fit z)))) in
+          = known _ (written d) out after
+          (k .left (length out) ∙ rw (z, le-ltb (length out) (length (packed d)) (omega arith)))
+          (q ∙ ap (λ b. fronted b out) (sym (packed-is t p s (r .counts) (k .fit z)))) in
           rw i a

@@ -60,7 +60,7 @@ module _ (t p s : List ℕ) (c : Counts) (fit : Fit t p s c) (a : ℕ) (l : Fiel
         unfolding unitLine refuse
         unit-taken k x y m v = moves t x y m (addUnit d (at 1)) (unitLine d f) v
             (rw (h .counted, h .named, ← name, no-unit t p s c u g, space t p s c _ _ 32 (units-are t p s c) k)
-              (ap (λ w. taken (addUnit d w)) (field 2 1 1 h (omega arith) (omega arith))))
+            (ap (λ w. taken (addUnit d w)) (field 2 1 1 h (omega arith) (omega arith))))
 
   -- ---- `out`, unit, name
   module _ (b : ℕ) (e : b ≡ shapeOf f 3 2) where
@@ -87,25 +87,45 @@ module _ (t p s : List ℕ) (c : Counts) (fit : Fit t p s c) (a : ℕ) (l : Fiel
         pub out-26 : y < c .outputs → Took t p s (record { number = 26; counts = c }) (outLine d f)
         unfolding outLine refuse
         out-26 k = stays t p s c fit 26 (outLine d f)
-            (rw (out-lets .counted, out-lets .named, ← out-unit, is-unit t p s c u g, ← out-name,
-              is-output t p s c y k))
+            (rw (
+              out-lets .counted,
+              out-lets .named,
+              ← out-unit,
+              is-unit t p s c u g,
+              ← out-name,
+              is-output t p s c y k,
+            ))
 
         module _ (k : c .outputs ≤ y) where
           pub out-29 : 96 ≤ c .outputs → Took t p s (record { number = 29; counts = c }) (outLine d f)
           unfolding outLine refuse
           out-29 i = stays t p s c fit 29 (outLine d f)
-              (rw (out-lets .counted, out-lets .named, ← out-unit, is-unit t p s c u g, ← out-name,
-                no-output t p s c y k, full t p s c _ _ 96 (outputs-are t p s c) i))
+              (rw (
+                out-lets .counted,
+                out-lets .named,
+                ← out-unit,
+                is-unit t p s c u g,
+                ← out-name,
+                no-output t p s c y k,
+                full t p s c _ _ 96 (outputs-are t p s c) i,
+              ))
 
           pub out-taken : c .outputs < 96 → (v w : List ℕ) (m : Counts)
               → Stands t v w m (addOutput d (record { owner = u; name = at 2 }))
               → Took t v w (record { number = 0; counts = m }) (outLine d f)
           unfolding outLine refuse
           out-taken i v w m j = moves t v w m (addOutput d (record { owner = u; name = at 2 })) (outLine d f) j
-              (rw (out-lets .counted, out-lets .named, ← out-unit, is-unit t p s c u g, ← out-name,
-                no-output t p s c y k, space t p s c _ _ 96 (outputs-are t p s c) i)
-                (ap (λ n. taken (addOutput d (record { owner = u; name = n })))
-                  (field 3 2 2 out-lets (omega arith) (omega arith))))
+              (rw (
+                out-lets .counted,
+                out-lets .named,
+                ← out-unit,
+                is-unit t p s c u g,
+                ← out-name,
+                no-output t p s c y k,
+                space t p s c _ _ 96 (outputs-are t p s c) i,
+              )
+              (ap (λ n. taken (addOutput d (record { owner = u; name = n })))
+              (field 3 2 2 out-lets (omega arith) (omega arith))))
 
   -- ---- `in`, unit, name, `delayed` or `reactive`
   module _ (line b : ℕ) (e : b ≡ shapeOf f 4 2) where
@@ -141,15 +161,32 @@ module _ (t p s : List ℕ) (c : Counts) (fit : Fit t p s c) (a : ℕ) (l : Fiel
           pub in-26 : x < c .inputs → Took t p s (record { number = 26; counts = c }) (inLine d line f)
           unfolding inLine refuse
           in-26 k = stays t p s c fit 26 (inLine d line f)
-              (rw (in-lets .counted, in-lets .named, ← in-kind, ne-eqb kind 2 known, ← in-unit, is-unit t p s c u g,
-                ← in-name, is-input t p s c x k))
+              (rw (
+                in-lets .counted,
+                in-lets .named,
+                ← in-kind,
+                ne-eqb kind 2 known,
+                ← in-unit,
+                is-unit t p s c u g,
+                ← in-name,
+                is-input t p s c x k,
+              ))
 
           module _ (k : c .inputs ≤ x) where
             pub in-29 : 96 ≤ c .inputs → Took t p s (record { number = 29; counts = c }) (inLine d line f)
             unfolding inLine refuse
             in-29 i = stays t p s c fit 29 (inLine d line f)
-                (rw (in-lets .counted, in-lets .named, ← in-kind, ne-eqb kind 2 known, ← in-unit, is-unit t p s c u g,
-                  ← in-name, no-input t p s c x k, full t p s c _ _ 96 (inputs-are t p s c) i))
+                (rw (
+                  in-lets .counted,
+                  in-lets .named,
+                  ← in-kind,
+                  ne-eqb kind 2 known,
+                  ← in-unit,
+                  is-unit t p s c u g,
+                  ← in-name,
+                  no-input t p s c x k,
+                  full t p s c _ _ 96 (inputs-are t p s c) i,
+                ))
 
             abbrev input : List ℕ → Input
             input n = record { owner = u; name = n; kind = kind; source = unjoined; line = line }
@@ -158,6 +195,15 @@ module _ (t p s : List ℕ) (c : Counts) (fit : Fit t p s c) (a : ℕ) (l : Fiel
                 → Took t v w (record { number = 0; counts = m }) (inLine d line f)
             unfolding inLine refuse
             in-taken i v w m j = moves t v w m (addInput d (input (at 2))) (inLine d line f) j
-                (rw (in-lets .counted, in-lets .named, ← in-kind, ne-eqb kind 2 known, ← in-unit, is-unit t p s c u g,
-                  ← in-name, no-input t p s c x k, space t p s c _ _ 96 (inputs-are t p s c) i)
-                  (ap (λ n. taken (addInput d (input n))) (field 4 2 2 in-lets (omega arith) (omega arith))))
+                (rw (
+                  in-lets .counted,
+                  in-lets .named,
+                  ← in-kind,
+                  ne-eqb kind 2 known,
+                  ← in-unit,
+                  is-unit t p s c u g,
+                  ← in-name,
+                  no-input t p s c x k,
+                  space t p s c _ _ 96 (inputs-are t p s c) i,
+                )
+                (ap (λ n. taken (addInput d (input n))) (field 4 2 2 in-lets (omega arith) (omega arith))))

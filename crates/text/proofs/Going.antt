@@ -52,6 +52,7 @@ rows-some (x ∷ y ∷ ys) h e = go (eqb x lf) (eqb x tab) (rows-some (y ∷ ys)
     last : getD (x ∷ y ∷ ys) (suc (suc (length ys)) - 1) 0 ≡ 10 → getD (y ∷ ys) (suc (length ys) - 1) 0 ≡ 10
     last q = ap (λ k. getD (y ∷ ys) k 0) (let z : suc (length ys) - 1 ≡ length ys = omega arith in z)
         ∙ sym (ap (λ k. getD (x ∷ y ∷ ys) k 0) (let z : suc (suc (length ys)) - 1 ≡ suc (length ys) = omega arith in z)) ∙ q
+
     go : (a b : Bool) → Some (rows (y ∷ ys)) → Some (cond a (([] ∷ []) ∷ rows (y ∷ ys)) (cond b (parted (rows (y ∷ ys))) (grown x (rows (y ∷ ys)))))
     go true b s = omega arith
     go false true s = some-parted (rows (y ∷ ys)) s
@@ -115,7 +116,7 @@ module _ (t : List ℕ) (a : ℕ) (p s : List ℕ) (c : Counts) (at k : ℕ) (g 
 
     pub going-stop : (o .number ≡ 0 → ⊥)
         → Walked t q r (record { number = o .number; place = k; counts = o .counts })
-          (λ room. linesFrom room blank 2 (rows (drop a t)))
+        (λ room. linesFrom room blank 2 (rows (drop a t)))
     going-stop n = record {
       fit = took .stands .fit;
       left = λ room. left-then room ∙ rw (ne-eqb (o .number) 0 n);

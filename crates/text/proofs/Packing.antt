@@ -50,22 +50,31 @@ pairs-are s zero = refl
 pairs-are s (suc n) =
     pairs-append (listed (feedAt s) n) (feedAt s n)
     ∙ rw (pairs-are s n)
-      (sym (listed-two (λ i. getD s (640 + i) 0) n
-        ∙ ap (λ k. listed (λ i. getD s (640 + i) 0) (2 * n) ++ (getD s (640 + 2 * n) 0 ∷ getD s k 0 ∷ []))
-          (let z : 640 + suc (2 * n) ≡ 641 + 2 * n = omega arith in z)))
+    (sym (listed-two (λ i. getD s (640 + i) 0) n
+    ∙ ap (λ k. listed (λ i. getD s (640 + i) 0) (2 * n) ++ (getD s (640 + 2 * n) 0 ∷ getD s k 0 ∷ []))
+    (let z : 640 + suc (2 * n) ≡ 641 + 2 * n = omega arith in z)))
 
 module _ (t p s : List ℕ) (c : Counts) (f : Fit t p s c) where
   pub packed-is : packed (draftOf t p s c) ≡ bytesOf s c
   unfolding packed draftOf bytesOf outputAt inputAt
   packed-is =
       let l : length s ≡ 896 = f .slots-long in
-      rw (listed-length (nameAt t p) (c .units), listed-length (outputAt t p s) (c .outputs),
-        listed-length (inputAt t p s) (c .inputs), listed-length (feedAt s) (c .feeds),
-        listed-map (λ (o : Output). o .owner) (outputAt t p s) (c .outputs), slots-are s 256 (c .outputs) (omega (arith, f .outputs-most)),
-        listed-map (λ (i : Input). i .owner) (inputAt t p s) (c .inputs), slots-are s 352 (c .inputs) (omega (arith, f .inputs-most)),
-        listed-map (λ (i : Input). i .kind) (inputAt t p s) (c .inputs), slots-are s 448 (c .inputs) (omega (arith, f .inputs-most)),
-        listed-map (λ (i : Input). i .source) (inputAt t p s) (c .inputs), slots-are s 544 (c .inputs) (omega (arith, f .inputs-most)),
-        pairs-are s (c .feeds), slots-are s 640 (2 * c .feeds) (omega (arith, f .feeds-most)))
+      rw (
+        listed-length (nameAt t p) (c .units),
+        listed-length (outputAt t p s) (c .outputs),
+        listed-length (inputAt t p s) (c .inputs),
+        listed-length (feedAt s) (c .feeds),
+        listed-map (λ (o : Output). o .owner) (outputAt t p s) (c .outputs),
+        slots-are s 256 (c .outputs) (omega (arith, f .outputs-most)),
+        listed-map (λ (i : Input). i .owner) (inputAt t p s) (c .inputs),
+        slots-are s 352 (c .inputs) (omega (arith, f .inputs-most)),
+        listed-map (λ (i : Input). i .kind) (inputAt t p s) (c .inputs),
+        slots-are s 448 (c .inputs) (omega (arith, f .inputs-most)),
+        listed-map (λ (i : Input). i .source) (inputAt t p s) (c .inputs),
+        slots-are s 544 (c .inputs) (omega (arith, f .inputs-most)),
+        pairs-are s (c .feeds),
+        slots-are s 640 (2 * c .feeds) (omega (arith, f .feeds-most)),
+      )
       (simp append-assoc)
 
 -- the packed length, from the counts
@@ -74,29 +83,42 @@ pub bytes-long : (s : List ℕ) (c : Counts) → Slotted s c
 unfolding bytesOf
 bytes-long s c g =
     let l : length s ≡ 896 = g .long in
-    simp (length-append, slots-long s 256 (c .outputs) (omega (arith, g .outputs-most)),
-      slots-long s 352 (c .inputs) (omega (arith, g .inputs-most)), slots-long s 448 (c .inputs) (omega (arith, g .inputs-most)),
-      slots-long s 544 (c .inputs) (omega (arith, g .inputs-most)), slots-long s 640 (2 * c .feeds) (omega (arith, g .feeds-most)))
+    simp (
+      length-append,
+      slots-long s 256 (c .outputs) (omega (arith, g .outputs-most)),
+      slots-long s 352 (c .inputs) (omega (arith, g .inputs-most)),
+      slots-long s 448 (c .inputs) (omega (arith, g .inputs-most)),
+      slots-long s 544 (c .inputs) (omega (arith, g .inputs-most)),
+      slots-long s 640 (2 * c .feeds) (omega (arith, g .feeds-most)),
+    )
     (omega arith)
 
 -- nine puts, one behind the other, write the packed bytes
 module _ (s : List ℕ) (c : Counts) (out : List ℕ) (room : length (bytesOf s c) ≤ length out) where
   abbrev p₁ : List ℕ
   p₁ = c .units ∷ []
+
   abbrev p₂ : List ℕ
   p₂ = p₁ ++ (c .outputs ∷ [])
+
   abbrev p₃ : List ℕ
   p₃ = p₂ ++ (c .inputs ∷ [])
+
   abbrev p₄ : List ℕ
   p₄ = p₃ ++ (c .feeds ∷ [])
+
   abbrev p₅ : List ℕ
   p₅ = p₄ ++ slotsFrom s 256 (c .outputs)
+
   abbrev p₆ : List ℕ
   p₆ = p₅ ++ slotsFrom s 352 (c .inputs)
+
   abbrev p₇ : List ℕ
   p₇ = p₆ ++ slotsFrom s 448 (c .inputs)
+
   abbrev p₈ : List ℕ
   p₈ = p₇ ++ slotsFrom s 544 (c .inputs)
+
   abbrev p₉ : List ℕ
   p₉ = p₈ ++ slotsFrom s 640 (2 * c .feeds)
 
@@ -109,12 +131,16 @@ module _ (s : List ℕ) (c : Counts) (out : List ℕ) (room : length (bytesOf s 
 
   r₈ : 0 + length p₈ ≤ length out
   r₈ = shorter p₈ (slotsFrom s 640 (2 * c .feeds)) (omega (arith, whole))
+
   r₇ : 0 + length p₇ ≤ length out
   r₇ = shorter p₇ (slotsFrom s 544 (c .inputs)) r₈
+
   r₆ : 0 + length p₆ ≤ length out
   r₆ = shorter p₆ (slotsFrom s 448 (c .inputs)) r₇
+
   r₅ : 0 + length p₅ ≤ length out
   r₅ = shorter p₅ (slotsFrom s 352 (c .inputs)) r₆
+
   r₄ : 0 + length p₄ ≤ length out
   r₄ = shorter p₄ (slotsFrom s 256 (c .outputs)) r₅
 

@@ -29,6 +29,7 @@ faulty-first f i (suc n) z b h = elim (decLt i n) [
   where
     later : i < n → faulty f n ≡ i + 1 → i + 1 ≡ faulty f (suc n)
     later g e = sym (rw (e, lt-ltb 0 (i + 1) (omega arith)))
+
     here : n ≡ i → i + 1 ≡ faulty f (suc n)
     here e = sym (rw (e, z, ← add-one i, b))
 

@@ -65,32 +65,70 @@ module _ (t p s : List ℕ) (c : Counts) (fit : Fit t p s c) (a : ℕ) (l : Fiel
           pub feed-27-output : c .outputs ≤ y → Took t p s (record { number = 27; counts = c }) (feedLine d f)
           unfolding feedLine refuse
           feed-27-output i = stays t p s c fit 27 (feedLine d f)
-              (rw (h .counted, h .named, ← unit-is, is-unit t p s c u g, ← input-is, is-input t p s c x k,
-                ← output-is, no-output t p s c y i))
+              (rw (
+                h .counted,
+                h .named,
+                ← unit-is,
+                is-unit t p s c u g,
+                ← input-is,
+                is-input t p s c x k,
+                ← output-is,
+                no-output t p s c y i,
+              ))
 
           module _ (i : y < c .outputs) (n : ℕ) (j : n ≡ feedOf d x y) where
             pub feed-32 : n < c .feeds → Took t p s (record { number = 32; counts = c }) (feedLine d f)
             unfolding feedLine refuse
             feed-32 v = stays t p s c fit 32 (feedLine d f)
-                (rw (h .counted, h .named, ← unit-is, is-unit t p s c u g, ← input-is, is-input t p s c x k,
-                  ← output-is, is-output t p s c y i, ← j, is-feed t p s c n v))
+                (rw (
+                  h .counted,
+                  h .named,
+                  ← unit-is,
+                  is-unit t p s c u g,
+                  ← input-is,
+                  is-input t p s c x k,
+                  ← output-is,
+                  is-output t p s c y i,
+                  ← j,
+                  is-feed t p s c n v,
+                ))
 
             module _ (v : c .feeds ≤ n) where
               pub feed-29 : 128 ≤ c .feeds → Took t p s (record { number = 29; counts = c }) (feedLine d f)
               unfolding feedLine refuse
               feed-29 w = stays t p s c fit 29 (feedLine d f)
-                  (rw (h .counted, h .named, ← unit-is, is-unit t p s c u g, ← input-is, is-input t p s c x k,
-                    ← output-is, is-output t p s c y i, ← j, no-feed t p s c n v,
-                    full t p s c _ _ 128 (feeds-are t p s c) w))
+                  (rw (
+                    h .counted,
+                    h .named,
+                    ← unit-is,
+                    is-unit t p s c u g,
+                    ← input-is,
+                    is-input t p s c x k,
+                    ← output-is,
+                    is-output t p s c y i,
+                    ← j,
+                    no-feed t p s c n v,
+                    full t p s c _ _ 128 (feeds-are t p s c) w,
+                  ))
 
               pub feed-taken : c .feeds < 128 → (r₁ : List ℕ) (m : Counts)
                   → Stands t p r₁ m (addFeed d (record { input = x; output = y }))
                   → Took t p r₁ (record { number = 0; counts = m }) (feedLine d f)
               unfolding feedLine refuse
               feed-taken w r₁ m st = moves t p r₁ m (addFeed d (record { input = x; output = y })) (feedLine d f) st
-                  (rw (h .counted, h .named, ← unit-is, is-unit t p s c u g, ← input-is, is-input t p s c x k,
-                    ← output-is, is-output t p s c y i, ← j, no-feed t p s c n v,
-                    space t p s c _ _ 128 (feeds-are t p s c) w))
+                  (rw (
+                    h .counted,
+                    h .named,
+                    ← unit-is,
+                    is-unit t p s c u g,
+                    ← input-is,
+                    is-input t p s c x k,
+                    ← output-is,
+                    is-output t p s c y i,
+                    ← j,
+                    no-feed t p s c n v,
+                    space t p s c _ _ 128 (feeds-are t p s c) w,
+                  ))
 
   -- ---- `join`, unit, output, unit, input
   module _ (b : ℕ) (e : b ≡ shapeOf f 5 4) where
@@ -125,8 +163,16 @@ module _ (t p s : List ℕ) (c : Counts) (fit : Fit t p s c) (a : ℕ) (l : Fiel
           pub join-27-to : c .units ≤ v → Took t p s (record { number = 27; counts = c }) (joinLine d f)
           unfolding joinLine refuse
           join-27-to i = stays t p s c fit 27 (joinLine d f)
-              (rw (lets .counted, lets .named, ← from-unit, is-unit t p s c u g, ← from-output, is-output t p s c y k,
-                ← to-unit, no-unit t p s c v i))
+              (rw (
+                lets .counted,
+                lets .named,
+                ← from-unit,
+                is-unit t p s c u g,
+                ← from-output,
+                is-output t p s c y k,
+                ← to-unit,
+                no-unit t p s c v i,
+              ))
 
           module _ (i : v < c .units) (x : ℕ) (j : x ≡ inputNamed d v (at 4)) where
             to-input : x ≡ inputNamed d v (word f 4)
@@ -135,21 +181,53 @@ module _ (t p s : List ℕ) (c : Counts) (fit : Fit t p s c) (a : ℕ) (l : Fiel
             pub join-27-input : c .inputs ≤ x → Took t p s (record { number = 27; counts = c }) (joinLine d f)
             unfolding joinLine refuse
             join-27-input w = stays t p s c fit 27 (joinLine d f)
-                (rw (lets .counted, lets .named, ← from-unit, is-unit t p s c u g, ← from-output, is-output t p s c y k,
-                  ← to-unit, is-unit t p s c v i, ← to-input, no-input t p s c x w))
+                (rw (
+                  lets .counted,
+                  lets .named,
+                  ← from-unit,
+                  is-unit t p s c u g,
+                  ← from-output,
+                  is-output t p s c y k,
+                  ← to-unit,
+                  is-unit t p s c v i,
+                  ← to-input,
+                  no-input t p s c x w,
+                ))
 
             module _ (w : x < c .inputs) where
               pub join-30 : (getD s (544 + x) 0 ≡ 255 → ⊥) → Took t p s (record { number = 30; counts = c }) (joinLine d f)
               unfolding joinLine refuse
               join-30 n = stays t p s c fit 30 (joinLine d f)
-                  (rw (lets .counted, lets .named, ← from-unit, is-unit t p s c u g, ← from-output, is-output t p s c y k,
-                    ← to-unit, is-unit t p s c v i, ← to-input, is-input t p s c x w, source-is t p s c x w,
-                    ne-eqb (getD s (544 + x) 0) 255 n))
+                  (rw (
+                    lets .counted,
+                    lets .named,
+                    ← from-unit,
+                    is-unit t p s c u g,
+                    ← from-output,
+                    is-output t p s c y k,
+                    ← to-unit,
+                    is-unit t p s c v i,
+                    ← to-input,
+                    is-input t p s c x w,
+                    source-is t p s c x w,
+                    ne-eqb (getD s (544 + x) 0) 255 n,
+                  ))
 
               pub join-taken : getD s (544 + x) 0 ≡ 255 → (r₁ : List ℕ) → Stands t p r₁ c (addJoin d x y)
                   → Took t p r₁ (record { number = 0; counts = c }) (joinLine d f)
               unfolding joinLine refuse
               join-taken n r₁ st = moves t p r₁ c (addJoin d x y) (joinLine d f) st
-                  (rw (lets .counted, lets .named, ← from-unit, is-unit t p s c u g, ← from-output, is-output t p s c y k,
-                    ← to-unit, is-unit t p s c v i, ← to-input, is-input t p s c x w, source-is t p s c x w,
-                    eq-eqb (getD s (544 + x) 0) 255 n))
+                  (rw (
+                    lets .counted,
+                    lets .named,
+                    ← from-unit,
+                    is-unit t p s c u g,
+                    ← from-output,
+                    is-output t p s c y k,
+                    ← to-unit,
+                    is-unit t p s c v i,
+                    ← to-input,
+                    is-input t p s c x w,
+                    source-is t p s c x w,
+                    eq-eqb (getD s (544 + x) 0) 255 n,
+                  ))

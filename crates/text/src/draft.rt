@@ -4,11 +4,17 @@ ghost use Prim.Native.Nat.{_<_, _+_};
 ghost use Rattle.grammar.specs.Rows.{fieldAt};
 ghost use Rattle.grammar.specs.Draft.{unitNamed, outputNamed, inputNamed, feedOf, loose as looseOf, unjoined, addUnit, addOutput, addInput, addFeed, addJoin};
 ghost use Rattle.notes.specs.Notes.{draftOf, Fit, Stands};
-use notes::Counts;
 use crate::names;
+use notes::Counts;
 
 // The unit whose name begins at place a, or the count of units.
-pub fn unit_named(text: &[u8], places: &[u16; 320], slots: &[u8; 896], counts: Counts, a: u16) -> usize
+pub fn unit_named(
+    text: &[u8],
+    places: &[u16; 320],
+    slots: &[u8; 896],
+    counts: Counts,
+    a: u16,
+) -> usize
     requires { ⌜ Fit (now text) (now places) (now slots) counts ⌝ }
     ensures { λ r. ⌜ r ≡ unitNamed (draftOf (now (text .entry)) (now (places .entry)) (now (slots .entry)) counts) (fieldAt (now (text .entry)) a) ⌝ }
 {
@@ -16,7 +22,14 @@ pub fn unit_named(text: &[u8], places: &[u16; 320], slots: &[u8; 896], counts: C
 }
 
 // The output of unit u whose name begins at place a, or the count of outputs.
-pub fn output_named(text: &[u8], places: &[u16; 320], slots: &[u8; 896], counts: Counts, u: usize, a: u16) -> usize
+pub fn output_named(
+    text: &[u8],
+    places: &[u16; 320],
+    slots: &[u8; 896],
+    counts: Counts,
+    u: usize,
+    a: u16,
+) -> usize
     requires { ⌜ Fit (now text) (now places) (now slots) counts ⌝ }
     requires { ⌜ u < 32 ⌝ }
     ensures { λ r. ⌜ r ≡ outputNamed (draftOf (now (text .entry)) (now (places .entry)) (now (slots .entry)) counts) u (fieldAt (now (text .entry)) a) ⌝ }
@@ -25,7 +38,14 @@ pub fn output_named(text: &[u8], places: &[u16; 320], slots: &[u8; 896], counts:
 }
 
 // The input of unit u whose name begins at place a, or the count of inputs.
-pub fn input_named(text: &[u8], places: &[u16; 320], slots: &[u8; 896], counts: Counts, u: usize, a: u16) -> usize
+pub fn input_named(
+    text: &[u8],
+    places: &[u16; 320],
+    slots: &[u8; 896],
+    counts: Counts,
+    u: usize,
+    a: u16,
+) -> usize
     requires { ⌜ Fit (now text) (now places) (now slots) counts ⌝ }
     requires { ⌜ u < 32 ⌝ }
     ensures { λ r. ⌜ r ≡ inputNamed (draftOf (now (text .entry)) (now (places .entry)) (now (slots .entry)) counts) u (fieldAt (now (text .entry)) a) ⌝ }
@@ -34,7 +54,13 @@ pub fn input_named(text: &[u8], places: &[u16; 320], slots: &[u8; 896], counts: 
 }
 
 // One unit more, whose name begins at place a.
-pub fn add_unit(text: &[u8], places: &mut [u16; 320], slots: &mut [u8; 896], counts: Counts, a: u16) -> Counts
+pub fn add_unit(
+    text: &[u8],
+    places: &mut [u16; 320],
+    slots: &mut [u8; 896],
+    counts: Counts,
+    a: u16,
+) -> Counts
     requires { ⌜ Fit (now text) (now places) (now slots) counts ⌝ }
     requires { ⌜ counts .units < 32 ⌝ }
     ensures { λ r. ⌜ Stands (now (text .entry)) (now (places .exit)) (now (slots .exit)) r (addUnit (draftOf (now (text .entry)) (now (places .entry)) (now (slots .entry)) counts) (fieldAt (now (text .entry)) a)) ⌝ }
@@ -47,7 +73,14 @@ pub fn add_unit(text: &[u8], places: &mut [u16; 320], slots: &mut [u8; 896], cou
 }
 
 // One output of unit u more, whose name begins at place a.
-pub fn add_output(text: &[u8], places: &mut [u16; 320], slots: &mut [u8; 896], counts: Counts, u: usize, a: u16) -> Counts
+pub fn add_output(
+    text: &[u8],
+    places: &mut [u16; 320],
+    slots: &mut [u8; 896],
+    counts: Counts,
+    u: usize,
+    a: u16,
+) -> Counts
     requires { ⌜ Fit (now text) (now places) (now slots) counts ⌝ }
     requires { ⌜ (counts .outputs < 96) × (u < 32) ⌝ }
     ensures { λ r. ⌜ Stands (now (text .entry)) (now (places .exit)) (now (slots .exit)) r (addOutput (draftOf (now (text .entry)) (now (places .entry)) (now (slots .entry)) counts) (record { owner = u; name = fieldAt (now (text .entry)) a })) ⌝ }
@@ -60,7 +93,16 @@ pub fn add_output(text: &[u8], places: &mut [u16; 320], slots: &mut [u8; 896], c
 }
 
 // One input of unit u more, not joined yet, whose name begins at place a, declared on that line.
-pub fn add_input(text: &[u8], places: &mut [u16; 320], slots: &mut [u8; 896], counts: Counts, u: usize, a: u16, kind: u8, line: usize) -> Counts
+pub fn add_input(
+    text: &[u8],
+    places: &mut [u16; 320],
+    slots: &mut [u8; 896],
+    counts: Counts,
+    u: usize,
+    a: u16,
+    kind: u8,
+    line: usize,
+) -> Counts
     requires { ⌜ Fit (now text) (now places) (now slots) counts ⌝ }
     requires { ⌜ (counts .inputs < 96) × ((u < 32) × (line < 65536)) ⌝ }
     ensures { λ r. ⌜ Stands (now (text .entry)) (now (places .exit)) (now (slots .exit)) r (addInput (draftOf (now (text .entry)) (now (places .entry)) (now (slots .entry)) counts) (record { owner = u; name = fieldAt (now (text .entry)) a; kind = kind; source = unjoined; line = line })) ⌝ }
@@ -76,7 +118,14 @@ pub fn add_input(text: &[u8], places: &mut [u16; 320], slots: &mut [u8; 896], co
 }
 
 // The feed from input x to output y, or the count of feeds.
-pub fn feed_of(text: &[u8], places: &[u16; 320], slots: &[u8; 896], counts: Counts, x: u8, y: u8) -> usize
+pub fn feed_of(
+    text: &[u8],
+    places: &[u16; 320],
+    slots: &[u8; 896],
+    counts: Counts,
+    x: u8,
+    y: u8,
+) -> usize
     requires { ⌜ Fit (now text) (now places) (now slots) counts ⌝ }
     ensures { λ r. ⌜ r ≡ feedOf (draftOf (now (text .entry)) (now (places .entry)) (now (slots .entry)) counts) x y ⌝ }
 {
@@ -92,7 +141,14 @@ pub fn feed_of(text: &[u8], places: &[u16; 320], slots: &[u8; 896], counts: Coun
 }
 
 // One feed more, from input x to output y.
-pub fn add_feed(text: &[u8], places: &[u16; 320], slots: &mut [u8; 896], counts: Counts, x: usize, y: usize) -> Counts
+pub fn add_feed(
+    text: &[u8],
+    places: &[u16; 320],
+    slots: &mut [u8; 896],
+    counts: Counts,
+    x: usize,
+    y: usize,
+) -> Counts
     requires { ⌜ Fit (now text) (now places) (now slots) counts ⌝ }
     requires { ⌜ (counts .feeds < 128) × ((x < 96) × (y < 96)) ⌝ }
     ensures { λ r. ⌜ Stands (now (text .entry)) (now (places .entry)) (now (slots .exit)) r (addFeed (draftOf (now (text .entry)) (now (places .entry)) (now (slots .entry)) counts) (record { input = x; output = y })) ⌝ }
@@ -106,7 +162,14 @@ pub fn add_feed(text: &[u8], places: &[u16; 320], slots: &mut [u8; 896], counts:
 }
 
 // Joins input x to output y.
-pub fn add_join(text: &[u8], places: &[u16; 320], slots: &mut [u8; 896], counts: Counts, x: usize, y: usize)
+pub fn add_join(
+    text: &[u8],
+    places: &[u16; 320],
+    slots: &mut [u8; 896],
+    counts: Counts,
+    x: usize,
+    y: usize,
+)
     requires { ⌜ Fit (now text) (now places) (now slots) counts ⌝ }
     requires { ⌜ (x < counts .inputs) × (y < 96) ⌝ }
     ensures { λ r. ⌜ Stands (now (text .entry)) (now (places .entry)) (now (slots .exit)) counts (addJoin (draftOf (now (text .entry)) (now (places .entry)) (now (slots .entry)) counts) x y) ⌝ }

@@ -2,13 +2,15 @@
 ghost use lib.ListN.{length};
 ghost use Rattle.grammar.specs.Reading.{reading};
 ghost use Rattle.text.specs.Walked.{Answered};
-mod names;
+
 mod draft;
 mod lines;
-mod whole;
-mod walk;
+mod names;
 mod noting;
 mod pack;
+mod walk;
+mod whole;
+
 use notes::Counts;
 
 // The number of a line's refusal, or 0, and what has been noted after it.
@@ -39,13 +41,22 @@ pub fn read(text: &[u8], out: &mut [u8]) -> Answer
     let noted = noting::note(text, &mut places, &mut slots);
     let number = noted.number;
     if number != 0 {
-        return Answer { number: number, place: noted.place };
+        return Answer {
+            number: number,
+            place: noted.place,
+        };
     }
     let counts = noted.counts;
     let size = pack::size(counts);
     if out.len() < size {
-        return Answer { number: 34, place: 0 };
+        return Answer {
+            number: 34,
+            place: 0,
+        };
     }
     pack::pack(&slots, counts, out);
-    Answer { number: 0, place: size }
+    Answer {
+        number: 0,
+        place: size,
+    }
 }

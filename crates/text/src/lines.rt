@@ -6,11 +6,11 @@ ghost use Rattle.grammar.specs.Lines.{faulty as faultyOf, unitLine, outLine, in
 ghost use Rattle.grammar.specs.Lines.{line as lineOutcome};
 ghost use Rattle.notes.specs.Notes.{draftOf, Fit};
 ghost use Rattle.text.specs.Took.{Told, shapeOf, keywordOf, Took};
-use fields::Fields;
-use notes::Counts;
 use crate::Taken;
 use crate::draft;
 use crate::names;
+use fields::Fields;
+use notes::Counts;
 
 // The first of that many fields after the keyword that is no name, or 0.
 fn faulty(text: &[u8], at: usize, fields: Fields, names: usize) -> usize
@@ -48,54 +48,95 @@ fn shape(text: &[u8], at: usize, fields: Fields, count: u16, names: usize) -> u8
 }
 
 // `unit`, name.
-pub fn unit_line(text: &[u8], places: &mut [u16; 320], slots: &mut [u8; 896], counts: Counts, at: usize, fields: Fields) -> Taken
+pub fn unit_line(
+    text: &[u8],
+    places: &mut [u16; 320],
+    slots: &mut [u8; 896],
+    counts: Counts,
+    at: usize,
+    fields: Fields,
+) -> Taken
     requires { ⌜ Fit (now text) (now places) (now slots) counts ⌝ }
     requires { ⌜ Told (now text) at fields ⌝ }
     ensures { λ r. ⌜ Took (now (text .entry)) (now (places .exit)) (now (slots .exit)) r (unitLine (draftOf (now (text .entry)) (now (places .entry)) (now (slots .entry)) counts) (rowAt (now (text .entry)) at)) ⌝ }
 {
     let bad = shape(text, at, fields, 2, 1);
     if bad != 0 {
-        return Taken { number: bad, counts: counts };
+        return Taken {
+            number: bad,
+            counts: counts,
+        };
     }
     let a = fields.from[1];
     let u = draft::unit_named(text, places, slots, counts, a);
     let units = counts.units;
     if u < units {
-        return Taken { number: 26, counts: counts };
+        return Taken {
+            number: 26,
+            counts: counts,
+        };
     }
     if 32 <= units {
-        return Taken { number: 29, counts: counts };
+        return Taken {
+            number: 29,
+            counts: counts,
+        };
     }
     let more = draft::add_unit(text, places, slots, counts, a);
-    Taken { number: 0, counts: more }
+    Taken {
+        number: 0,
+        counts: more,
+    }
 }
 
 // `out`, unit, name.
-pub fn out_line(text: &[u8], places: &mut [u16; 320], slots: &mut [u8; 896], counts: Counts, at: usize, fields: Fields) -> Taken
+pub fn out_line(
+    text: &[u8],
+    places: &mut [u16; 320],
+    slots: &mut [u8; 896],
+    counts: Counts,
+    at: usize,
+    fields: Fields,
+) -> Taken
     requires { ⌜ Fit (now text) (now places) (now slots) counts ⌝ }
     requires { ⌜ Told (now text) at fields ⌝ }
     ensures { λ r. ⌜ Took (now (text .entry)) (now (places .exit)) (now (slots .exit)) r (outLine (draftOf (now (text .entry)) (now (places .entry)) (now (slots .entry)) counts) (rowAt (now (text .entry)) at)) ⌝ }
 {
     let bad = shape(text, at, fields, 3, 2);
     if bad != 0 {
-        return Taken { number: bad, counts: counts };
+        return Taken {
+            number: bad,
+            counts: counts,
+        };
     }
     let u = draft::unit_named(text, places, slots, counts, fields.from[1]);
     let units = counts.units;
     if units <= u {
-        return Taken { number: 27, counts: counts };
+        return Taken {
+            number: 27,
+            counts: counts,
+        };
     }
     let a = fields.from[2];
     let y = draft::output_named(text, places, slots, counts, u, a);
     let outputs = counts.outputs;
     if y < outputs {
-        return Taken { number: 26, counts: counts };
+        return Taken {
+            number: 26,
+            counts: counts,
+        };
     }
     if 96 <= outputs {
-        return Taken { number: 29, counts: counts };
+        return Taken {
+            number: 29,
+            counts: counts,
+        };
     }
     let more = draft::add_output(text, places, slots, counts, u, a);
-    Taken { number: 0, counts: more }
+    Taken {
+        number: 0,
+        counts: more,
+    }
 }
 
 // 0 `delayed`, 1 `reactive`, 2 another word.
@@ -112,7 +153,15 @@ fn kind_of(word: &[u8]) -> u8
 }
 
 // `in`, unit, name, `delayed` or `reactive`.
-pub fn in_line(text: &[u8], places: &mut [u16; 320], slots: &mut [u8; 896], counts: Counts, at: usize, fields: Fields, line: usize) -> Taken
+pub fn in_line(
+    text: &[u8],
+    places: &mut [u16; 320],
+    slots: &mut [u8; 896],
+    counts: Counts,
+    at: usize,
+    fields: Fields,
+    line: usize,
+) -> Taken
     requires { ⌜ Fit (now text) (now places) (now slots) counts ⌝ }
     requires { ⌜ Told (now text) at fields ⌝ }
     requires { ⌜ line < 65536 ⌝ }
@@ -120,103 +169,177 @@ pub fn in_line(text: &[u8], places: &mut [u16; 320], slots: &mut [u8; 896], coun
 {
     let bad = shape(text, at, fields, 4, 2);
     if bad != 0 {
-        return Taken { number: bad, counts: counts };
+        return Taken {
+            number: bad,
+            counts: counts,
+        };
     }
     let b = names::wide(fields.from[3]);
     let e = names::wide(fields.to[3]);
     let kind = kind_of(&text[b..e]);
     if kind == 2 {
-        return Taken { number: 28, counts: counts };
+        return Taken {
+            number: 28,
+            counts: counts,
+        };
     }
     let u = draft::unit_named(text, places, slots, counts, fields.from[1]);
     let units = counts.units;
     if units <= u {
-        return Taken { number: 27, counts: counts };
+        return Taken {
+            number: 27,
+            counts: counts,
+        };
     }
     let a = fields.from[2];
     let x = draft::input_named(text, places, slots, counts, u, a);
     let inputs = counts.inputs;
     if x < inputs {
-        return Taken { number: 26, counts: counts };
+        return Taken {
+            number: 26,
+            counts: counts,
+        };
     }
     if 96 <= inputs {
-        return Taken { number: 29, counts: counts };
+        return Taken {
+            number: 29,
+            counts: counts,
+        };
     }
     let more = draft::add_input(text, places, slots, counts, u, a, kind, line);
-    Taken { number: 0, counts: more }
+    Taken {
+        number: 0,
+        counts: more,
+    }
 }
 
 // `feed`, unit, input, output.
-pub fn feed_line(text: &[u8], places: &mut [u16; 320], slots: &mut [u8; 896], counts: Counts, at: usize, fields: Fields) -> Taken
+pub fn feed_line(
+    text: &[u8],
+    places: &mut [u16; 320],
+    slots: &mut [u8; 896],
+    counts: Counts,
+    at: usize,
+    fields: Fields,
+) -> Taken
     requires { ⌜ Fit (now text) (now places) (now slots) counts ⌝ }
     requires { ⌜ Told (now text) at fields ⌝ }
     ensures { λ r. ⌜ Took (now (text .entry)) (now (places .exit)) (now (slots .exit)) r (feedLine (draftOf (now (text .entry)) (now (places .entry)) (now (slots .entry)) counts) (rowAt (now (text .entry)) at)) ⌝ }
 {
     let bad = shape(text, at, fields, 4, 3);
     if bad != 0 {
-        return Taken { number: bad, counts: counts };
+        return Taken {
+            number: bad,
+            counts: counts,
+        };
     }
     let u = draft::unit_named(text, places, slots, counts, fields.from[1]);
     let units = counts.units;
     if units <= u {
-        return Taken { number: 27, counts: counts };
+        return Taken {
+            number: 27,
+            counts: counts,
+        };
     }
     let x = draft::input_named(text, places, slots, counts, u, fields.from[2]);
     let inputs = counts.inputs;
     if inputs <= x {
-        return Taken { number: 27, counts: counts };
+        return Taken {
+            number: 27,
+            counts: counts,
+        };
     }
     let y = draft::output_named(text, places, slots, counts, u, fields.from[3]);
     let outputs = counts.outputs;
     if outputs <= y {
-        return Taken { number: 27, counts: counts };
+        return Taken {
+            number: 27,
+            counts: counts,
+        };
     }
     let k = draft::feed_of(text, places, slots, counts, x as u8, y as u8);
     let feeds = counts.feeds;
     if k < feeds {
-        return Taken { number: 32, counts: counts };
+        return Taken {
+            number: 32,
+            counts: counts,
+        };
     }
     if 128 <= feeds {
-        return Taken { number: 29, counts: counts };
+        return Taken {
+            number: 29,
+            counts: counts,
+        };
     }
     let more = draft::add_feed(text, places, slots, counts, x, y);
-    Taken { number: 0, counts: more }
+    Taken {
+        number: 0,
+        counts: more,
+    }
 }
 
 // `join`, unit, output, unit, input.
-pub fn join_line(text: &[u8], places: &mut [u16; 320], slots: &mut [u8; 896], counts: Counts, at: usize, fields: Fields) -> Taken
+pub fn join_line(
+    text: &[u8],
+    places: &mut [u16; 320],
+    slots: &mut [u8; 896],
+    counts: Counts,
+    at: usize,
+    fields: Fields,
+) -> Taken
     requires { ⌜ Fit (now text) (now places) (now slots) counts ⌝ }
     requires { ⌜ Told (now text) at fields ⌝ }
     ensures { λ r. ⌜ Took (now (text .entry)) (now (places .exit)) (now (slots .exit)) r (joinLine (draftOf (now (text .entry)) (now (places .entry)) (now (slots .entry)) counts) (rowAt (now (text .entry)) at)) ⌝ }
 {
     let bad = shape(text, at, fields, 5, 4);
     if bad != 0 {
-        return Taken { number: bad, counts: counts };
+        return Taken {
+            number: bad,
+            counts: counts,
+        };
     }
     let u = draft::unit_named(text, places, slots, counts, fields.from[1]);
     let units = counts.units;
     if units <= u {
-        return Taken { number: 27, counts: counts };
+        return Taken {
+            number: 27,
+            counts: counts,
+        };
     }
     let y = draft::output_named(text, places, slots, counts, u, fields.from[2]);
     let outputs = counts.outputs;
     if outputs <= y {
-        return Taken { number: 27, counts: counts };
+        return Taken {
+            number: 27,
+            counts: counts,
+        };
     }
     let v = draft::unit_named(text, places, slots, counts, fields.from[3]);
     if units <= v {
-        return Taken { number: 27, counts: counts };
+        return Taken {
+            number: 27,
+            counts: counts,
+        };
     }
     let x = draft::input_named(text, places, slots, counts, v, fields.from[4]);
     let inputs = counts.inputs;
     if inputs <= x {
-        return Taken { number: 27, counts: counts };
+        return Taken {
+            number: 27,
+            counts: counts,
+        };
     }
     if slots[544 + x] != 255 {
-        return Taken { number: 30, counts: counts };
+        return Taken {
+            number: 30,
+            counts: counts,
+        };
     }
     draft::add_join(text, places, slots, counts, x, y);
-    Taken { number: 0, counts: counts }
+    Taken {
+        number: 0,
+        counts: counts,
+    }
 }
 
 // 1 `unit`, 2 `out`, 3 `in`, 4 `feed`, 5 `join`, 0 another word.
@@ -242,7 +365,15 @@ fn keyword_of(word: &[u8]) -> u8
 }
 
 // The line with that number, by its keyword.
-pub fn line(text: &[u8], places: &mut [u16; 320], slots: &mut [u8; 896], counts: Counts, at: usize, fields: Fields, line: usize) -> Taken
+pub fn line(
+    text: &[u8],
+    places: &mut [u16; 320],
+    slots: &mut [u8; 896],
+    counts: Counts,
+    at: usize,
+    fields: Fields,
+    line: usize,
+) -> Taken
     requires { ⌜ Fit (now text) (now places) (now slots) counts ⌝ }
     requires { ⌜ Told (now text) at fields ⌝ }
     requires { ⌜ line < 65536 ⌝ }
@@ -257,6 +388,9 @@ pub fn line(text: &[u8], places: &mut [u16; 320], slots: &mut [u8; 896], counts:
         3 => in_line(text, places, slots, counts, at, fields, line),
         4 => feed_line(text, places, slots, counts, at, fields),
         5 => join_line(text, places, slots, counts, at, fields),
-        _ => Taken { number: 24, counts: counts },
+        _ => Taken {
+            number: 24,
+            counts: counts,
+        },
     }
 }

@@ -8,7 +8,14 @@ ghost use Rattle.notes.specs.Notes.{isNamed, named, Findable};
 ghost use Rattle.notes.specs.Noted.{Noted};
 
 // Is name k the field that begins at place a, of that owner?
-fn is_named(text: &[u8], places: &[u16; 320], slots: &[u8; 896], k: usize, owner: u8, a: usize) -> bool
+fn is_named(
+    text: &[u8],
+    places: &[u16; 320],
+    slots: &[u8; 896],
+    k: usize,
+    owner: u8,
+    a: usize,
+) -> bool
     requires { ⌜ k < 224 ⌝ }
     ensures { λ r. ⌜ r ≡ isNamed (now (text .entry)) (now (places .entry)) (now (slots .entry)) owner (fieldAt (now (text .entry)) a) k ⌝ }
 {
@@ -19,7 +26,15 @@ fn is_named(text: &[u8], places: &[u16; 320], slots: &[u8; 896], k: usize, owner
 }
 
 // The number of the name among count names from name base on, or count.
-pub fn find(text: &[u8], places: &[u16; 320], slots: &[u8; 896], base: usize, count: usize, owner: u8, a: usize) -> usize
+pub fn find(
+    text: &[u8],
+    places: &[u16; 320],
+    slots: &[u8; 896],
+    base: usize,
+    count: usize,
+    owner: u8,
+    a: usize,
+) -> usize
     requires { ⌜ Findable (now text) (now places) (now slots) base count ⌝ }
     ensures { λ r. ⌜ r ≡ leastFrom (named (now (text .entry)) (now (places .entry)) (now (slots .entry)) base owner (fieldAt (now (text .entry)) a)) count 0 ⌝ }
 {
@@ -35,7 +50,14 @@ pub fn find(text: &[u8], places: &[u16; 320], slots: &[u8; 896], base: usize, co
 }
 
 // Notes name k, which begins at place a, with its owner and its mark.
-pub fn note(text: &[u8], places: &mut [u16; 320], slots: &mut [u8; 896], k: usize, owner: u8, a: u16)
+pub fn note(
+    text: &[u8],
+    places: &mut [u16; 320],
+    slots: &mut [u8; 896],
+    k: usize,
+    owner: u8,
+    a: u16,
+)
     requires { ⌜ k < 224 ⌝ }
     requires { ⌜ (length (now places) ≡ 320) × (length (now slots) ≡ 896) ⌝ }
     ensures { λ r. ⌜ Noted (now (text .entry)) (now (places .entry)) (now (slots .entry)) (now (places .exit)) (now (slots .exit)) k a owner ⌝ }

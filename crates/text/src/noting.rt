@@ -3,12 +3,12 @@ ghost use mathlib.Core.Path.{_≡_};
 ghost use lib.ListN.{length};
 ghost use Rattle.notes.specs.Notes.{Fit};
 ghost use Rattle.text.specs.Walked.{Closed, Noticed};
-use notes::Counts;
+use crate::Noted;
 use crate::draft;
 use crate::names;
 use crate::walk;
 use crate::whole;
-use crate::Noted;
+use notes::Counts;
 
 // What is refused at the end: 33 no unit, 31 an input without join.
 fn close(text: &[u8], places: &[u16; 320], slots: &[u8; 896], counts: Counts) -> Noted
@@ -17,14 +17,26 @@ fn close(text: &[u8], places: &[u16; 320], slots: &[u8; 896], counts: Counts) ->
 {
     let units = counts.units;
     if units == 0 {
-        return Noted { number: 33, place: 1, counts: counts };
+        return Noted {
+            number: 33,
+            place: 1,
+            counts: counts,
+        };
     }
     let x = draft::loose(text, places, slots, counts);
     let inputs = counts.inputs;
     if x < inputs {
-        return Noted { number: 31, place: names::wide(places[224 + x]), counts: counts };
+        return Noted {
+            number: 31,
+            place: names::wide(places[224 + x]),
+            counts: counts,
+        };
     }
-    Noted { number: 0, place: 0, counts: counts }
+    Noted {
+        number: 0,
+        place: 0,
+        counts: counts,
+    }
 }
 
 // Notes a text, whatever its bytes: a refusal with its line, or the notes stand for its table.
@@ -32,15 +44,28 @@ pub fn note(text: &[u8], places: &mut [u16; 320], slots: &mut [u8; 896]) -> Note
     requires { ⌜ (length (now places) ≡ 320) × (length (now slots) ≡ 896) ⌝ }
     ensures { λ r. ⌜ Noticed (now (text .entry)) (now (places .exit)) (now (slots .exit)) r ⌝ }
 {
-    let none = Counts { units: 0, outputs: 0, inputs: 0, feeds: 0 };
+    let none = Counts {
+        units: 0,
+        outputs: 0,
+        inputs: 0,
+        feeds: 0,
+    };
     let checked = whole::check(text);
     let bad = checked.number;
     if bad != 0 {
-        return Noted { number: bad, place: checked.place, counts: none };
+        return Noted {
+            number: bad,
+            place: checked.place,
+            counts: none,
+        };
     }
     let fields = fields::fields_at(text, 0);
     if whole::version(text, fields) == 0 {
-        return Noted { number: 23, place: 1, counts: none };
+        return Noted {
+            number: 23,
+            place: 1,
+            counts: none,
+        };
     }
     let noted = walk::walk(text, places, slots, names::wide(fields.next));
     let number = noted.number;

@@ -6,10 +6,10 @@ ghost use Rattle.grammar.specs.Rows.{rows};
 ghost use Rattle.grammar.specs.Draft.{blank};
 ghost use Rattle.grammar.specs.Reading.{linesFrom};
 ghost use Rattle.text.specs.Walked.{Ended, Walked};
-use notes::Counts;
-use crate::names;
-use crate::lines;
 use crate::Noted;
+use crate::lines;
+use crate::names;
+use notes::Counts;
 
 // Notes the lines from place a on, of which the first is line 2, until one is refused.
 pub fn walk(text: &[u8], places: &mut [u16; 320], slots: &mut [u8; 896], a: usize) -> Noted
@@ -18,7 +18,12 @@ pub fn walk(text: &[u8], places: &mut [u16; 320], slots: &mut [u8; 896], a: usiz
     requires { ⌜ a ≤ length (now text) ⌝ }
     ensures { λ r. ⌜ Walked (now (text .entry)) (now (places .exit)) (now (slots .exit)) r (λ room. linesFrom room blank 2 (rows (drop a (now (text .entry))))) ⌝ }
 {
-    let mut counts = Counts { units: 0, outputs: 0, inputs: 0, feeds: 0 };
+    let mut counts = Counts {
+        units: 0,
+        outputs: 0,
+        inputs: 0,
+        feeds: 0,
+    };
     let mut at = a;
     let mut number = 2;
     while at < text.len() {
@@ -27,10 +32,18 @@ pub fn walk(text: &[u8], places: &mut [u16; 320], slots: &mut [u8; 896], a: usiz
         let bad = taken.number;
         counts = taken.counts;
         if bad != 0 {
-            return Noted { number: bad, place: number, counts: counts };
+            return Noted {
+                number: bad,
+                place: number,
+                counts: counts,
+            };
         }
         at = names::wide(fields.next);
         number += 1;
     }
-    Noted { number: 0, place: number, counts: counts }
+    Noted {
+        number: 0,
+        place: number,
+        counts: counts,
+    }
 }

@@ -4,9 +4,9 @@ ghost use Rattle.grammar.specs.Rows.{rowAt};
 ghost use Rattle.grammar.specs.Reading.{version as versionOf};
 ghost use Rattle.text.specs.Took.{Told};
 ghost use Rattle.text.specs.Walked.{Whole};
-use fields::Fields;
-use crate::names;
 use crate::Answer;
+use crate::names;
+use fields::Fields;
 
 // 20, 21 or 22 with its line, or 0.
 pub fn check(text: &[u8]) -> Answer
@@ -14,19 +14,34 @@ pub fn check(text: &[u8]) -> Answer
 {
     let size = text.len();
     if size == 0 {
-        return Answer { number: 20, place: 0 };
+        return Answer {
+            number: 20,
+            place: 0,
+        };
     }
     if 24576 < size {
-        return Answer { number: 20, place: 0 };
+        return Answer {
+            number: 20,
+            place: 0,
+        };
     }
     if text[size - 1] != b'\n' {
-        return Answer { number: 21, place: scan::line_ends(text) + 1 };
+        return Answer {
+            number: 21,
+            place: scan::line_ends(text) + 1,
+        };
     }
     let bad = scan::first_bad(text);
     if bad < size {
-        return Answer { number: 22, place: scan::line_ends(&text[..bad]) + 1 };
+        return Answer {
+            number: 22,
+            place: scan::line_ends(&text[..bad]) + 1,
+        };
     }
-    Answer { number: 0, place: 0 }
+    Answer {
+        number: 0,
+        place: 0,
+    }
 }
 
 // The version that the first line names, or 0.
