@@ -64,7 +64,7 @@ module _ (d : Draft) (g : Proper d) where
   feed-new x y e k h p q =
       let l = place-is (λ f. eqb (f .input) x && eqb (f .output) y) noFeed (d .feeds) in
       let n : T (not (eqb (getD (d .feeds) k noFeed .input) x && eqb (getD (d .feeds) k noFeed .output) y))
-        = l .below k (omega (arith, ltb-false (feedOf d x y) (length (d .feeds)) e)) in
+      = l .below k (omega (arith, ltb-false (feedOf d x y) (length (d .feeds)) e)) in
       let w : T (not (true && true)) = (rw (eq-eqb _ _ p, eq-eqb _ _ q) at n) in
       w
 

@@ -42,8 +42,13 @@ module _ (u y x f : ℕ) (a b c e q : List ℕ)
   pub long : length t ≡ asked t
   unfolding asked outputs inputs feeds
   long =
-      omega (arith, length-append a (b ++ (c ++ (e ++ q))), length-append b (c ++ (e ++ q)), length-append c (e ++ q),
-        length-append e q)
+      omega (
+        arith,
+        length-append a (b ++ (c ++ (e ++ q))),
+        length-append b (c ++ (e ++ q)),
+        length-append c (e ++ q),
+        length-append e q,
+      )
 
   tail₁ : drop (4 + y) t ≡ b ++ (c ++ (e ++ q))
   tail₁ = sym (drop-drop y 4 t) ∙ drop-at a (b ++ (c ++ (e ++ q))) y la

@@ -24,15 +24,15 @@ pub record Proper (d : Draft) : Type 0 where
   pub input-owned : (x : ℕ) → x < length (d .inputs) → getD (d .inputs) x noInput .owner < length (d .units)
   pub kind-known : (x : ℕ) → x < length (d .inputs) → getD (d .inputs) x noInput .kind ≤ 1
   pub sourced : (x : ℕ) → x < length (d .inputs)
-    → (getD (d .inputs) x noInput .source ≡ unjoined) ⊎ (getD (d .inputs) x noInput .source < length (d .outputs))
+      → (getD (d .inputs) x noInput .source ≡ unjoined) ⊎ (getD (d .inputs) x noInput .source < length (d .outputs))
   pub feed-input : (k : ℕ) → k < length (d .feeds) → getD (d .feeds) k noFeed .input < length (d .inputs)
   pub feed-output : (k : ℕ) → k < length (d .feeds) → getD (d .feeds) k noFeed .output < length (d .outputs)
   pub feed-unit : (k : ℕ) → k < length (d .feeds)
-    → getD (d .inputs) (getD (d .feeds) k noFeed .input) noInput .owner
-    ≡ getD (d .outputs) (getD (d .feeds) k noFeed .output) noOutput .owner
+      → getD (d .inputs) (getD (d .feeds) k noFeed .input) noInput .owner
+      ≡ getD (d .outputs) (getD (d .feeds) k noFeed .output) noOutput .owner
   pub feed-once : (j k : ℕ) → j < k → k < length (d .feeds)
-    → getD (d .feeds) j noFeed .input ≡ getD (d .feeds) k noFeed .input
-    → getD (d .feeds) j noFeed .output ≡ getD (d .feeds) k noFeed .output → ⊥
+      → getD (d .feeds) j noFeed .input ≡ getD (d .feeds) k noFeed .input
+      → getD (d .feeds) j noFeed .output ≡ getD (d .feeds) k noFeed .output → ⊥
 
 pub blank-proper : Proper blank
 unfolding blank
@@ -98,7 +98,7 @@ module _ (d : Draft) (g : Proper d) where
         feed-input = g .feed-input;
         feed-output = λ i h. omega (arith, g .feed-output i h);
         feed-unit = λ i h. g .feed-unit i h ∙ ap (λ (z : Output). z .owner)
-          (sym (List·getD-append (d .outputs) (o ∷ []) noOutput (getD (d .feeds) i noFeed .output) (g .feed-output i h)));
+            (sym (List·getD-append (d .outputs) (o ∷ []) noOutput (getD (d .feeds) i noFeed .output) (g .feed-output i h)));
         feed-once = g .feed-once;
       }
 
@@ -116,19 +116,19 @@ module _ (d : Draft) (g : Proper d) where
         input-owned = each-more (λ z. z .owner < length (d .units)) (d .inputs) i noInput (g .input-owned) p;
         kind-known = each-more (λ z. z .kind ≤ 1) (d .inputs) i noInput (g .kind-known) r;
         sourced = each-more (λ z. (z .source ≡ unjoined) ⊎ (z .source < length (d .outputs))) (d .inputs) i noInput
-          (g .sourced) (inl s);
+            (g .sourced) (inl s);
         feed-input = λ j h. omega (arith, g .feed-input j h);
         feed-output = g .feed-output;
         feed-unit = λ j h. ap (λ (z : Input). z .owner)
-          (List·getD-append (d .inputs) (i ∷ []) noInput (getD (d .feeds) j noFeed .input) (g .feed-input j h))
-          ∙ g .feed-unit j h;
+            (List·getD-append (d .inputs) (i ∷ []) noInput (getD (d .feeds) j noFeed .input) (g .feed-input j h))
+            ∙ g .feed-unit j h;
         feed-once = g .feed-once;
       }
 
   pub feed-proper : (f : Feed) → f .input < length (d .inputs) → f .output < length (d .outputs)
       → getD (d .inputs) (f .input) noInput .owner ≡ getD (d .outputs) (f .output) noOutput .owner
       → ((k : ℕ) → k < length (d .feeds) → getD (d .feeds) k noFeed .input ≡ f .input
-        → getD (d .feeds) k noFeed .output ≡ f .output → ⊥)
+      → getD (d .feeds) k noFeed .output ≡ f .output → ⊥)
       → length (d .feeds) < 128 → Proper (addFeed d f)
   unfolding addFeed
   feed-proper f x y o n k =
@@ -145,16 +145,16 @@ module _ (d : Draft) (g : Proper d) where
         feed-input = each-more (λ z. z .input < length (d .inputs)) (d .feeds) f noFeed (g .feed-input) x;
         feed-output = each-more (λ z. z .output < length (d .outputs)) (d .feeds) f noFeed (g .feed-output) y;
         feed-unit = each-more
-          (λ z. getD (d .inputs) (z .input) noInput .owner ≡ getD (d .outputs) (z .output) noOutput .owner)
-          (d .feeds) f noFeed (g .feed-unit) o;
+            (λ z. getD (d .inputs) (z .input) noInput .owner ≡ getD (d .outputs) (z .output) noOutput .owner)
+            (d .feeds) f noFeed (g .feed-unit) o;
         feed-once = λ j i h l.
-          let b : j < length (d .feeds) = omega arith in
-          elim (decLt i (length (d .feeds))) [
-            | yes m ↦ rw (List·getD-append (d .feeds) (f ∷ []) noFeed j b, List·getD-append (d .feeds) (f ∷ []) noFeed i m)
-              (g .feed-once j i h m)
-            | no m ↦ let z : i ≡ length (d .feeds) = omega arith in
-              rw (List·getD-append (d .feeds) (f ∷ []) noFeed j b, z, getD-append-seam (d .feeds) f [] noFeed) (n j b)
-          ];
+            let b : j < length (d .feeds) = omega arith in
+            elim (decLt i (length (d .feeds))) [
+              | yes m ↦ rw (List·getD-append (d .feeds) (f ∷ []) noFeed j b, List·getD-append (d .feeds) (f ∷ []) noFeed i m)
+                  (g .feed-once j i h m)
+              | no m ↦ let z : i ≡ length (d .feeds) = omega arith in
+                  rw (List·getD-append (d .feeds) (f ∷ []) noFeed j b, z, getD-append-seam (d .feeds) f [] noFeed) (n j b)
+            ];
       }
 
   -- ---- input x joined to output y

@@ -29,19 +29,25 @@ module _ (d : Draft) (g : Proper d) (some : 0 < length (d .units))
     (all : (x : ℕ) → x < length (d .inputs) → getD (d .inputs) x noInput .source < length (d .outputs)) where
   abbrev oo : List ℕ
   oo = map (λ (o : Output). o .owner) (d .outputs)
+
   abbrev io : List ℕ
   io = map (λ (i : Input). i .owner) (d .inputs)
+
   abbrev ks : List ℕ
   ks = map (λ (i : Input). i .kind) (d .inputs)
+
   abbrev ss : List ℕ
   ss = map (λ (i : Input). i .source) (d .inputs)
 
   la : length oo ≡ length (d .outputs)
   la = length-map (d .outputs) (λ (o : Output). o .owner)
+
   lb : length io ≡ length (d .inputs)
   lb = length-map (d .inputs) (λ (i : Input). i .owner)
+
   lc : length ks ≡ length (d .inputs)
   lc = length-map (d .inputs) (λ (i : Input). i .kind)
+
   le : length ss ≡ length (d .inputs)
   le = length-map (d .inputs) (λ (i : Input). i .source)
 
@@ -60,13 +66,19 @@ module _ (d : Draft) (g : Proper d) (some : 0 < length (d .units))
         sourced = λ x h. rw (S, map-at (λ (i : Input). i .source) noInput (d .inputs) x h) (all x h);
         feed-input = λ k h. rw (F, pairs-input (d .feeds) k h) (g .feed-input k h);
         feed-output = λ k h. rw (F, pairs-output (d .feeds) k h) (g .feed-output k h);
-        feed-unit = λ k h. rw (F, pairs-input (d .feeds) k h, pairs-output (d .feeds) k h, P, Q,
+        feed-unit = λ k h. rw (
+          F,
+          pairs-input (d .feeds) k h,
+          pairs-output (d .feeds) k h,
+          P,
+          Q,
           map-at (λ (i : Input). i .owner) noInput (d .inputs) (getD (d .feeds) k noFeed .input) (g .feed-input k h),
-          map-at (λ (o : Output). o .owner) noOutput (d .outputs) (getD (d .feeds) k noFeed .output) (g .feed-output k h))
-          (g .feed-unit k h);
+          map-at (λ (o : Output). o .owner) noOutput (d .outputs) (getD (d .feeds) k noFeed .output) (g .feed-output k h),
+        )
+            (g .feed-unit k h);
         feed-once = λ j k h l. let i : j < length (d .feeds) = omega arith in
-          rw (F, pairs-input (d .feeds) j i, pairs-input (d .feeds) k l, pairs-output (d .feeds) j i, pairs-output (d .feeds) k l)
-          (g .feed-once j k h l);
+            rw (F, pairs-input (d .feeds) j i, pairs-input (d .feeds) k l, pairs-output (d .feeds) j i, pairs-output (d .feeds) k l)
+            (g .feed-once j k h l);
       }
 
   pub packed-sound : Sound (packed d)
@@ -98,12 +110,14 @@ ending-fine room d g = go (eqb (length (d .units)) 0) refl (ltb at (length (d .i
   where
     at : ℕ
     at = place (λ i. eqb (i .source) unjoined) (d .inputs)
+
     joined-all : ltb at (length (d .inputs)) ≡ false → (x : ℕ) → x < length (d .inputs) → getD (d .inputs) x noInput .source < length (d .outputs)
     joined-all e x h = elim (g .sourced x h) [
       | inr z ↦ z
       | inl z ↦ absurd (clash (eqb (getD (d .inputs) x noInput .source) unjoined) (rw (eq-eqb _ _ z) tt)
-        (place-is (λ i. eqb (i .source) unjoined) noInput (d .inputs) .below x (omega (arith, ltb-false at (length (d .inputs)) e))))
+          (place-is (λ i. eqb (i .source) unjoined) noInput (d .inputs) .below x (omega (arith, ltb-false at (length (d .inputs)) e))))
     ]
+
     go : (a : Bool) → eqb (length (d .units)) 0 ≡ a → (b : Bool) → ltb at (length (d .inputs)) ≡ b → (c : Bool)
         → Fine (cond a (stopped 33 1) (cond b (stopped 31 (getD (d .inputs) at noInput .line)) (cond c (stopped 34 0) (written d))))
     go true p b q c = fine-stopped 33 1 (omega arith)
@@ -132,7 +146,7 @@ read-sound room t =
   where
     go : (a b c e : Bool)
         → Fine (cond a (stopped 20 0) (cond b (stopped 21 (lineOf t (length t))) (cond c (stopped 22 (lineOf t (firstBad t)))
-          (cond e (stopped 23 1) (linesFrom room blank 2 (drop 1 (rows t)))))))
+        (cond e (stopped 23 1) (linesFrom room blank 2 (drop 1 (rows t)))))))
     go true b c e = fine-stopped 20 0 (omega arith)
     go false true c e = fine-stopped 21 _ (omega arith)
     go false false true e = fine-stopped 22 _ (omega arith)
