@@ -2,3 +2,4 @@ pub mod Mark
 pub mod Listed
 pub mod Notes
 pub mod Noted
+pub mod Determined

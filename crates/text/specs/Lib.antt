@@ -1,3 +1,4 @@
 pub mod Took
 pub mod Walked
 pub mod Packs
+pub mod Determined

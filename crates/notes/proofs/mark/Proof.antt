@@ -1,9 +1,6 @@
+-- The loop keeps that the mark of the rest, from the mark so far, is the mark of the field.
 use Rattle.notes.proofs.mark.Statement.{statement}
 use Rattle.notes.proofs.mark.Tie as tie
-use Rattle.notes.proofs.mark.Reads as reads
-use Rattle.notes.proofs.mark.Lts as lts
-use Rattle.notes.proofs.is_empty.Reads as is-empty-reads
-use Rattle.notes.proofs.wide.Reads as wide-reads
 use borrow.Author.Needs.{needs}
 use Prim.Native.Nat.{ℕ, _+_, _*_, _%_, _-_, _<_}
 use mathlib.Core.Path.{_≡_, refl, sym, ap, _∙_}
@@ -21,47 +18,36 @@ Inv-loop text a owner m₀ i₀ m i = (m < 256) × (markFrom owner (fieldAt text
 abbrev μ-loop : tie.MeasureT-loop
 μ-loop text a owner m₀ i₀ m i = length text - i
 
--- src/lib.rt:55:5
 loop-holds : tie.Need-loop-holds Inv-loop μ-loop
 loop-holds c = (search needs, refl)
 
--- src/lib.rt:55:12
 is-empty-requires : tie.Need-is-empty-requires Inv-loop μ-loop
 is-empty-requires c κs = search needs
 
--- src/lib.rt:56:14
 mul-m : tie.Need-mul-m Inv-loop μ-loop
 mul-m c = omega arith
 
--- src/lib.rt:56:28
 shared-slice-read-wide : tie.Need-shared-slice-read-wide Inv-loop μ-loop
 shared-slice-read-wide c = is-open _ _ (sym (c .before .before .is-empty .ensures) ∙ not-true _ (c .before .if1 .taken)) .inside
 
--- src/lib.rt:56:23
 wide-requires : tie.Need-wide-requires Inv-loop μ-loop
 wide-requires c κs = search needs
 
--- src/lib.rt:56:14
 add-m : tie.Need-add-m Inv-loop μ-loop
 add-m c = omega (arith, c .wide .ensures, c .before .shared-slice-known2 .given (c .before .before .before .before .loop .i))
 
--- src/lib.rt:57:9
 add-i : tie.Need-add-i Inv-loop μ-loop
 add-i c = omega (arith, is-open _ _ (sym (c .before .before .before .is-empty .ensures) ∙ not-true _ (c .before .before .if1 .taken)) .inside)
 
--- src/lib.rt:55:5
 loop-less : tie.Need-loop-less Inv-loop μ-loop
 loop-less c = omega (arith, is-open _ _ (sym (c .before .before .before .is-empty .ensures) ∙ not-true _ (c .before .before .if1 .taken)) .inside)
 
--- src/lib.rt:55:5
 loop-again : tie.Need-loop-again Inv-loop μ-loop
 loop-again c = (mod-lt _ (omega arith), c .before .before .before .before .loop .inv .1 ∙ mark-on _ _ _ (is-open _ _ (sym (c .before .before .before .is-empty .ensures) ∙ not-true _ (c .before .before .if1 .taken))) ∙ ap (λ (x : ℕ). markFrom ((c .before .before .before .before .loop .m * 31 + x) % 256) (fieldAt (c .before .before .before .before .before .before .args .text .now) (c .before .before .before .before .loop .i + 1))) (sym (c .wide .ensures)))
 
--- src/lib.rt:59:5
 cast-result : tie.Need-cast-result Inv-loop μ-loop
 cast-result c = search needs
 
--- src/lib.rt:50:1
 returns : tie.Need-returns Inv-loop μ-loop
 returns c = mod-eq-of-lt (c .before .before .loop .inv .0) ∙ sym (c .before .before .loop .inv .1 ∙ mark-end _ _ _ (sym (c .before .is-empty .ensures) ∙ not-false _ (c .if1 .left)))
 

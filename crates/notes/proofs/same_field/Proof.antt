@@ -1,8 +1,6 @@
+-- The loop keeps that the rest of the one field is compared with the rest of the other.
 use Rattle.notes.proofs.same_field.Statement.{statement}
 use Rattle.notes.proofs.same_field.Tie as tie
-use Rattle.notes.proofs.same_field.Reads as reads
-use Rattle.notes.proofs.same_field.Lts as lts
-use Rattle.notes.proofs.is_empty.Reads as is-empty-reads
 use borrow.Author.Needs.{needs}
 use Prim.Native.Nat.{_-_}
 use mathlib.Core.Path.{_≡_, refl, sym, _∙_}
@@ -19,51 +17,39 @@ Inv-loop text a b i₀ j₀ i j = same (fieldAt text a) (fieldAt text b) ≡ sam
 abbrev μ-loop : tie.MeasureT-loop
 μ-loop text a b i₀ j₀ i j = length text - i
 
--- src/lib.rt:36:5
 loop-holds : tie.Need-loop-holds Inv-loop μ-loop
 loop-holds c = refl
 
--- src/lib.rt:36:12
 is-empty-requires : tie.Need-is-empty-requires Inv-loop μ-loop
 is-empty-requires c κs = search needs
 
--- src/lib.rt:38:13
 returns : tie.Need-returns Inv-loop μ-loop
 returns c = shorter _ _ _ (is-open _ _ (sym (c .before .before .is-empty .ensures) ∙ not-true _ (c .before .if1 .taken))) (omega arith) ∙ sym (c .before .before .before .loop .inv)
 
--- src/lib.rt:40:12
 shared-slice-read-if3 : tie.Need-shared-slice-read-if3 Inv-loop μ-loop
 shared-slice-read-if3 c = is-open _ _ (sym (c .before .before .before .is-empty .ensures) ∙ not-true _ (c .before .before .if1 .taken)) .inside
 
--- src/lib.rt:40:23
 shared-slice-read-if3-2 : tie.Need-shared-slice-read-if3-2 Inv-loop μ-loop
 shared-slice-read-if3-2 c = omega arith
 
--- src/lib.rt:41:13
 returns-2 : tie.Need-returns-2 Inv-loop μ-loop
 returns-2 c = differs _ _ _ (is-open _ _ (sym (c .before .before .before .before .before .is-empty .ensures) ∙ not-true _ (c .before .before .before .before .if1 .taken))) (omega arith) (c .if3 .taken) ∙ sym (c .before .before .before .before .before .before .loop .inv)
 
--- src/lib.rt:43:9
 add-i : tie.Need-add-i Inv-loop μ-loop
 add-i c = omega (arith, is-open _ _ (sym (c .before .before .before .before .before .is-empty .ensures) ∙ not-true _ (c .before .before .before .before .if1 .taken)) .inside)
 
--- src/lib.rt:44:9
 add-j : tie.Need-add-j Inv-loop μ-loop
 add-j c = omega arith
 
--- src/lib.rt:36:5
 loop-less : tie.Need-loop-less Inv-loop μ-loop
 loop-less c = omega (arith, is-open _ _ (sym (c .before .before .before .before .before .is-empty .ensures) ∙ not-true _ (c .before .before .before .before .if1 .taken)) .inside)
 
--- src/lib.rt:36:5
 loop-again : tie.Need-loop-again Inv-loop μ-loop
 loop-again c = c .before .before .before .before .before .before .loop .inv ∙ along _ _ _ (is-open _ _ (sym (c .before .before .before .before .before .is-empty .ensures) ∙ not-true _ (c .before .before .before .before .if1 .taken))) (omega arith) (c .if3 .left)
 
--- src/lib.rt:46:5
 is-empty-requires-2 : tie.Need-is-empty-requires-2 Inv-loop μ-loop
 is-empty-requires-2 c κs = search needs
 
--- src/lib.rt:31:1
 returns-3 : tie.Need-returns-3 Inv-loop μ-loop
 returns-3 c = c .is-empty2 .ensures ∙ empty-same _ _ (sym (c .before .before .is-empty .ensures) ∙ not-false _ (c .before .if1 .left)) ∙ sym (c .before .before .before .loop .inv)
 

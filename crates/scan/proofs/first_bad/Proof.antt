@@ -1,8 +1,6 @@
+-- The loop keeps that every byte passed over is allowed.
 use Rattle.scan.proofs.first_bad.Statement.{statement}
 use Rattle.scan.proofs.first_bad.Tie as tie
-use Rattle.scan.proofs.first_bad.Reads as reads
-use Rattle.scan.proofs.first_bad.Lts as lts
-use Rattle.scan.proofs.is_allowed.Reads as is-allowed-reads
 use borrow.Author.Needs.{needs}
 use Prim.Native.Nat.{ℕ, _-_, _<_, _≤_}
 use mathlib.Core.Path.{sym, _∙_}
@@ -13,7 +11,7 @@ use borrow.Author.Tests.{not-true, not-false}
 use lib.ListN.{length, getD}
 use lib.Dec.{T}
 use Rattle.search.specs.Least.{found, not-found}
-use Rattle.search.specs.Truth.{holds, fails}
+use Rattle.search.specs.Truth.{fails}
 use Rattle.grammar.specs.Words.{allowed}
 use Rattle.scan.proofs.Scanning.{bad-least}
 
@@ -23,35 +21,27 @@ Inv-loop text i₀ i = (i ≤ length text) × ((k : ℕ) → k < i → T (not (n
 abbrev μ-loop : tie.MeasureT-loop
 μ-loop text i₀ i = length text - i
 
--- src/lib.rt:31:5
 loop-holds : tie.Need-loop-holds Inv-loop μ-loop
 loop-holds c = (omega arith, λ k h. absurd (omega arith))
 
--- src/lib.rt:32:24
 shared-slice-read-is-allowed : tie.Need-shared-slice-read-is-allowed Inv-loop μ-loop
 shared-slice-read-is-allowed c = omega arith
 
--- src/lib.rt:32:13
 is-allowed-requires : tie.Need-is-allowed-requires Inv-loop μ-loop
 is-allowed-requires c κs = search needs
 
--- src/lib.rt:33:13
 returns : tie.Need-returns Inv-loop μ-loop
 returns c = found _ _ _ (c .before .before .before .loop-test .taken) (c .before .before .before .before .loop .inv .1) (fails _ (sym (c .before .is-allowed .ensures) ∙ not-true _ (c .if1 .taken))) ∙ sym (bad-least _)
 
--- src/lib.rt:35:9
 add-i : tie.Need-add-i Inv-loop μ-loop
 add-i c = omega arith
 
--- src/lib.rt:31:5
 loop-less : tie.Need-loop-less Inv-loop μ-loop
 loop-less c = omega arith
 
--- src/lib.rt:31:5
 loop-again : tie.Need-loop-again Inv-loop μ-loop
 loop-again c = (omega arith, below-more _ _ (c .before .before .before .before .loop .inv .1) (rw (sym (c .before .is-allowed .ensures) ∙ not-false _ (c .if1 .left)) tt))
 
--- src/lib.rt:27:1
 returns-2 : tie.Need-returns-2 Inv-loop μ-loop
 returns-2 c = not-found _ _ _ (omega arith) (c .before .loop .inv .0) (c .before .loop .inv .1) ∙ sym (bad-least _)
 

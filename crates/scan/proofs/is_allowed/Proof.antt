@@ -1,27 +1,20 @@
+-- One law for each range of bytes.
 use Rattle.scan.proofs.is_allowed.Statement.{statement}
 use Rattle.scan.proofs.is_allowed.Tie as tie
-use Rattle.scan.proofs.is_allowed.Reads as reads
-use Rattle.scan.proofs.is_allowed.Lts as lts
-use borrow.Author.Needs.{needs}
 use Rattle.scan.proofs.Scanning.{letter, underscore, digit, a-tab, an-lf}
 
--- src/lib.rt:12:9
 returns : tie.Need-returns
 returns c = letter _ (c .if1 .taken)
 
--- src/lib.rt:15:9
 returns-2 : tie.Need-returns-2
 returns-2 c = underscore _ (c .before .if1 .left) (c .if2 .taken)
 
--- src/lib.rt:18:9
 returns-3 : tie.Need-returns-3
 returns-3 c = digit _ (c .before .before .if1 .left) (c .before .if2 .left) (c .if3 .taken)
 
--- src/lib.rt:21:9
 returns-4 : tie.Need-returns-4
 returns-4 c = a-tab _ (c .before .before .before .if1 .left) (c .before .before .if2 .left) (c .before .if3 .left) (c .if4 .taken)
 
--- src/lib.rt:8:1
 returns-5 : tie.Need-returns-5
 returns-5 c = an-lf _ (c .before .before .before .if1 .left) (c .before .before .if2 .left) (c .before .if3 .left) (c .if4 .left)
 

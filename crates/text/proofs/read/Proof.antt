@@ -1,46 +1,32 @@
+-- One law for each return.
 use borrow.Author.Needs.{needs}
 use Rattle.text.proofs.read.Statement.{statement}
 use Rattle.text.proofs.read.Tie as tie
-use Rattle.text.proofs.read.Reads as reads
-use Rattle.text.proofs.read.Lts as lts
-use Rattle.text.proofs.noting.note.Reads as note-reads
-use Rattle.text.proofs.pack.pack.Reads as pack-reads
-use Rattle.text.proofs.pack.size.Reads as size-reads
-use mathlib.Core.Path.{refl}
-use native.Mathlib.Omega.{arith}
+use mathlib.Core.Path.{sym}
 use Rattle.text.proofs.Packing.{fit-slotted}
 use Rattle.text.proofs.Answers.{read-refused, read-34, read-room, read-done}
-use mathlib.Core.Path.{sym}
 
--- src/lib.rt:39:9
 note-requires : tie.Need-note-requires
 note-requires c κs = search needs
 
--- src/lib.rt:42:9
 returns : tie.Need-returns
 returns c = read-refused _ _ _ _ (c .before .note .ensures) _ (c .if1 .taken)
 
--- src/lib.rt:45:9
 size-requires : tie.Need-size-requires
 size-requires c κs = ((c .before .before .note .ensures .fit (c .before .if1 .left)) .outputs-most, ((c .before .before .note .ensures .fit (c .before .if1 .left)) .inputs-most, (c .before .before .note .ensures .fit (c .before .if1 .left)) .feeds-most))
 
--- src/lib.rt:47:9
 returns-2 : tie.Need-returns-2
 returns-2 c = read-34 _ _ _ _ (c .before .before .before .before .note .ensures) _ (c .before .before .before .if1 .left) _ (c .before .size .ensures) (c .if2 .taken)
 
--- src/lib.rt:49:16
 slice-aggregate-pack : tie.Need-slice-aggregate-pack
 slice-aggregate-pack c = sym ((c .before .before .before .before .before .note .ensures .fit (c .before .before .before .before .if1 .left)) .slots-long)
 
--- src/lib.rt:49:5
 pack-requires : tie.Need-pack-requires
 pack-requires c κs = (fit-slotted _ _ _ _ (c .before .before .before .before .before .before .note .ensures .fit (c .before .before .before .before .before .if1 .left)), read-room _ _ _ _ (c .before .before .before .before .before .before .note .ensures) (c .before .before .before .before .before .before .before .before .before .before .before .args .out .now) (c .before .before .before .before .before .if1 .left) _ (c .before .before .before .size .ensures) (c .before .before .if2 .left))
 
--- src/lib.rt:34:1
 same-length : tie.Need-same-length
 same-length c = search needs
 
--- src/lib.rt:34:1
 returns-3 : tie.Need-returns-3
 returns-3 c = read-done _ _ _ _ (c .before .before .before .before .before .before .before .before .before .note .ensures) _ (c .before .before .before .before .before .before .before .before .if1 .left) _ (c .before .before .before .before .before .before .size .ensures) (c .before .before .before .before .before .if2 .left) _ (c .before .before .pack .ensures)
 

@@ -1,8 +1,6 @@
+-- The loop keeps that no feed passed over is the one sought.
 use Rattle.text.proofs.draft.feed_of.Statement.{statement}
 use Rattle.text.proofs.draft.feed_of.Tie as tie
-use Rattle.text.proofs.draft.feed_of.Reads as reads
-use Rattle.text.proofs.draft.feed_of.Lts as lts
-use borrow.Author.Needs.{needs}
 use Prim.Native.Nat.{ℕ, _-_, _<_, _≤_}
 use mathlib.Core.Path.{_∙_}
 use mathlib.Core.Bool.{not}
@@ -21,51 +19,39 @@ Inv-loop text places slots x y feeds k₀ k = (k ≤ feeds) × ((j : ℕ) → j 
 abbrev μ-loop : tie.MeasureT-loop
 μ-loop text places slots x y feeds k₀ k = feeds - k
 
--- src/draft.rt:85:5
 loop-holds : tie.Need-loop-holds Inv-loop μ-loop
 loop-holds c = (omega arith, λ k h. absurd (omega arith))
 
--- src/draft.rt:86:24
 mul-if1 : tie.Need-mul-if1 Inv-loop μ-loop
 mul-if1 c = omega (arith, c .before .before .pre .feeds-most)
 
--- src/draft.rt:86:18
 add-if1 : tie.Need-add-if1 Inv-loop μ-loop
 add-if1 c = omega (arith, c .before .before .pre .feeds-most)
 
--- src/draft.rt:86:12
 element-copy-out-if1 : tie.Need-element-copy-out-if1 Inv-loop μ-loop
 element-copy-out-if1 c = omega (arith, c .before .before .pre .feeds-most)
 
--- src/draft.rt:86:51
 mul-if2 : tie.Need-mul-if2 Inv-loop μ-loop
 mul-if2 c = omega (arith, c .before .before .before .before .pre .feeds-most)
 
--- src/draft.rt:86:45
 add-if2 : tie.Need-add-if2 Inv-loop μ-loop
 add-if2 c = omega (arith, c .before .before .before .before .pre .feeds-most)
 
--- src/draft.rt:86:39
 element-copy-out-if2 : tie.Need-element-copy-out-if2 Inv-loop μ-loop
 element-copy-out-if2 c = omega (arith, c .before .before .before .before .pre .feeds-most)
 
--- src/draft.rt:87:13
 returns : tie.Need-returns Inv-loop μ-loop
 returns c = found _ _ _ (c .before .before .before .before .loop-test .taken) (c .before .before .before .before .before .loop .inv .1) (fed-here _ _ _ _ (c .before .before .if1 .taken) (eqb-true _ _ (c .if2 .taken))) ∙ feed-found _ _ _ _ _ _
 
--- src/draft.rt:89:9
 add-k : tie.Need-add-k Inv-loop μ-loop
 add-k c = omega arith
 
--- src/draft.rt:85:5
 loop-less : tie.Need-loop-less Inv-loop μ-loop
 loop-less c = omega arith
 
--- src/draft.rt:85:5
 loop-again : tie.Need-loop-again Inv-loop μ-loop
 loop-again c = (omega arith, below-more _ _ (c .before .before .before .loop .inv .1) (⊎-elim (λ w. other-output _ _ _ _ (w .0 .taken) (eqb-false _ _ (w .2 .left))) (λ w. other-input _ _ _ _ (w .left)) (c .if1 .came)))
 
--- src/draft.rt:79:1
 returns-2 : tie.Need-returns-2 Inv-loop μ-loop
 returns-2 c = not-found _ _ _ (omega arith) (c .before .loop .inv .0) (c .before .loop .inv .1) ∙ feed-found _ _ _ _ _ _
 

@@ -1,8 +1,6 @@
+-- The loop keeps that every input passed over is joined.
 use Rattle.text.proofs.draft.loose.Statement.{statement}
 use Rattle.text.proofs.draft.loose.Tie as tie
-use Rattle.text.proofs.draft.loose.Reads as reads
-use Rattle.text.proofs.draft.loose.Lts as lts
-use borrow.Author.Needs.{needs}
 use Prim.Native.Nat.{ℕ, _-_, _<_, _≤_}
 use mathlib.Core.Path.{_∙_}
 use mathlib.Core.Bool.{not}
@@ -20,37 +18,29 @@ Inv-loop text places slots inputs x₀ x = (x ≤ inputs) × ((k : ℕ) → k < 
 abbrev μ-loop : tie.MeasureT-loop
 μ-loop text places slots inputs x₀ x = inputs - x
 
--- src/draft.rt:131:5
 loop-holds : tie.Need-loop-holds Inv-loop μ-loop
 loop-holds c = (omega arith, λ k h. absurd (omega arith))
 
--- src/draft.rt:132:18
 add-if1 : tie.Need-add-if1 Inv-loop μ-loop
 add-if1 c = omega (arith, c .before .before .pre .inputs-most)
 
--- src/draft.rt:132:12
 element-copy-out-if1 : tie.Need-element-copy-out-if1 Inv-loop μ-loop
 element-copy-out-if1 c = omega (arith, c .before .before .pre .inputs-most)
 
--- src/draft.rt:133:13
 returns : tie.Need-returns Inv-loop μ-loop
 unfolding isLoose
 returns c = found _ _ _ (c .before .before .loop-test .taken) (c .before .before .before .loop .inv .1) (eq-true _ _ (c .if1 .taken)) ∙ loose-found _ _ _ _
 
--- src/draft.rt:135:9
 add-x : tie.Need-add-x Inv-loop μ-loop
 add-x c = omega arith
 
--- src/draft.rt:131:5
 loop-less : tie.Need-loop-less Inv-loop μ-loop
 loop-less c = omega arith
 
--- src/draft.rt:131:5
 loop-again : tie.Need-loop-again Inv-loop μ-loop
 unfolding isLoose
 loop-again c = (omega arith, below-more _ _ (c .before .before .before .loop .inv .1) (eq-false _ _ (c .if1 .left)))
 
--- src/draft.rt:125:1
 returns-2 : tie.Need-returns-2 Inv-loop μ-loop
 returns-2 c = not-found _ _ _ (omega arith) (c .before .loop .inv .0) (c .before .loop .inv .1) ∙ loose-found _ _ _ _
 

@@ -1,21 +1,16 @@
+-- The search through the marks is the draft's search.
 use borrow.Author.Needs.{needs}
 use Rattle.text.proofs.draft.output_named.Statement.{statement}
 use Rattle.text.proofs.draft.output_named.Tie as tie
-use Rattle.text.proofs.draft.output_named.Reads as reads
-use Rattle.text.proofs.draft.output_named.Lts as lts
-use Rattle.text.proofs.names.find.Reads as find-reads
 use mathlib.Core.Path.{_∙_}
 use Rattle.notes.proofs.Found.{outputs-findable, output-found}
 
--- src/draft.rt:24:58
 cast-find : tie.Need-cast-find
 cast-find c = search needs
 
--- src/draft.rt:24:5
 find-requires : tie.Need-find-requires
 find-requires c κs = outputs-findable _ _ _ _ (c .before .pre .0)
 
--- src/draft.rt:19:1
 returns : tie.Need-returns
 returns c = c .find .ensures ∙ output-found _ _ _ _ (c .before .before .pre .0) _ _
 

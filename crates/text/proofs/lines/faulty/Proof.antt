@@ -1,16 +1,13 @@
+-- The loop keeps that the fields passed over are names.
 use Rattle.text.proofs.lines.faulty.Statement.{statement}
 use Rattle.text.proofs.lines.faulty.Tie as tie
-use Rattle.text.proofs.lines.faulty.Reads as reads
-use Rattle.text.proofs.lines.faulty.Lts as lts
 use borrow.Author.Needs.{needs}
-use Prim.Native.Nat.{ℕ, _-_, _+_, _<_, _≤_}
-use mathlib.Core.Path.{_≡_, refl, sym, _∙_}
+use Prim.Native.Nat.{_-_, _+_, _≤_}
+use mathlib.Core.Path.{_≡_, refl}
 use native.Mathlib.Omega.{arith}
-use lib.ListN.{getD, length}
-use Rattle.grammar.specs.Rows.{rowAt, word}
+use Rattle.grammar.specs.Rows.{rowAt}
 use Rattle.grammar.specs.Lines.{faulty}
-use Rattle.text.proofs.Shape.{faulty-first, faulty-on, no-name-empty, no-name-long, a-name, field-size}
-use Rattle.text.proofs.Shape.{faulty-none}
+use Rattle.text.proofs.Shape.{faulty-first, faulty-on, no-name-empty, no-name-long, a-name, field-size, faulty-none}
 
 abbrev Inv-loop : tie.InvT-loop
 Inv-loop text at names fields i₀ i = (i ≤ names) × (faulty (rowAt text at) i ≡ 0)
@@ -18,52 +15,40 @@ Inv-loop text at names fields i₀ i = (i ≤ names) × (faulty (rowAt text at) 
 abbrev μ-loop : tie.MeasureT-loop
 μ-loop text at names fields i₀ i = names - i
 
--- src/lines.rt:23:5
 loop-holds : tie.Need-loop-holds Inv-loop μ-loop
 unfolding faulty
 loop-holds c = (omega arith, refl)
 
--- src/lines.rt:24:9
 add-i : tie.Need-add-i Inv-loop μ-loop
 add-i c = omega arith
 
--- src/lines.rt:25:20
 mul-size : tie.Need-mul-size Inv-loop μ-loop
 mul-size c = search needs
 
--- src/lines.rt:25:20
 element-copy-out-size : tie.Need-element-copy-out-size Inv-loop μ-loop
 element-copy-out-size c = search needs
 
--- src/lines.rt:25:35
 mul-size-2 : tie.Need-mul-size-2 Inv-loop μ-loop
 mul-size-2 c = search needs
 
--- src/lines.rt:25:35
 element-copy-out-size-2 : tie.Need-element-copy-out-size-2 Inv-loop μ-loop
 element-copy-out-size-2 c = search needs
 
--- src/lines.rt:25:20
 sub-size : tie.Need-sub-size Inv-loop μ-loop
 sub-size c = omega (arith, field-size _ _ _ _ _ _ (c .before .before .before .before .pre .0) (c .before .before .before .loop .i + 1) (omega arith) (omega arith))
 
--- src/lines.rt:27:13
 returns : tie.Need-returns Inv-loop μ-loop
 returns c = faulty-first _ _ _ (c .before .before .before .before .loop .inv .1) (no-name-empty _ (omega (arith, field-size _ _ _ _ _ _ (c .before .before .before .before .before .pre .0) (c .before .before .before .before .loop .i + 1) (omega arith) (omega arith)))) (c .before .before .before .loop-test .taken)
 
--- src/lines.rt:30:13
 returns-2 : tie.Need-returns-2 Inv-loop μ-loop
 returns-2 c = faulty-first _ _ _ (c .before .before .before .before .before .loop .inv .1) (no-name-long _ (omega (arith, field-size _ _ _ _ _ _ (c .before .before .before .before .before .before .pre .0) (c .before .before .before .before .before .loop .i + 1) (omega arith) (omega arith)))) (c .before .before .before .before .loop-test .taken)
 
--- src/lines.rt:23:5
 loop-less : tie.Need-loop-less Inv-loop μ-loop
 loop-less c = omega arith
 
--- src/lines.rt:23:5
 loop-again : tie.Need-loop-again Inv-loop μ-loop
 loop-again c = (omega arith, faulty-on _ _ (c .before .before .before .before .before .loop .inv .1) (a-name _ (λ e. c .before .if1 .left (omega (arith, field-size _ _ _ _ _ _ (c .before .before .before .before .before .before .pre .0) (c .before .before .before .before .before .loop .i + 1) (omega arith) (omega arith)))) (omega (arith, field-size _ _ _ _ _ _ (c .before .before .before .before .before .before .pre .0) (c .before .before .before .before .before .loop .i + 1) (omega arith) (omega arith)))))
 
--- src/lines.rt:17:1
 returns-3 : tie.Need-returns-3 Inv-loop μ-loop
 returns-3 c = faulty-none _ _ _ (c .before .loop .inv .0) (omega arith) (c .before .loop .inv .1)
 

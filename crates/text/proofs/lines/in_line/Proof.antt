@@ -1,14 +1,7 @@
+-- One law for each return; the kind word is the field between its ends.
 use borrow.Author.Needs.{needs}
 use Rattle.text.proofs.lines.in_line.Statement.{statement}
 use Rattle.text.proofs.lines.in_line.Tie as tie
-use Rattle.text.proofs.lines.in_line.Reads as reads
-use Rattle.text.proofs.lines.in_line.Lts as lts
-use Rattle.text.proofs.draft.add_input.Reads as add-input-reads
-use Rattle.text.proofs.draft.input_named.Reads as input-named-reads
-use Rattle.text.proofs.draft.unit_named.Reads as unit-named-reads
-use Rattle.text.proofs.lines.kind_of.Reads as kind-of-reads
-use Rattle.text.proofs.lines.shape.Reads as shape-reads
-use Rattle.text.proofs.names.wide.Reads as wide-reads
 use mathlib.Core.Path.{ap, _∙_}
 use native.Mathlib.Omega.{arith}
 use Rattle.grammar.specs.Rows.{stretch}
@@ -17,87 +10,67 @@ use Rattle.text.proofs.Shape.{has-field}
 use Rattle.text.proofs.Outcomes.{word-here, word-ends}
 use Rattle.text.proofs.Declared.{in-stops, in-28, in-27, in-26, in-29, in-taken}
 
--- src/lines.rt:122:9
 shape-requires : tie.Need-shape-requires
 shape-requires c κs = search needs
 
--- src/lines.rt:124:9
 returns : tie.Need-returns
 returns c = in-stops _ _ _ _ (c .before .before .before .pre .0) _ _ (c .before .before .before .pre .1 .0) _ _ (c .before .shape .ensures) (c .if1 .taken)
 
--- src/lines.rt:126:25
 element-copy-out-wide : tie.Need-element-copy-out-wide
 element-copy-out-wide c = search needs
 
--- src/lines.rt:126:9
 wide-requires : tie.Need-wide-requires
 wide-requires c κs = search needs
 
--- src/lines.rt:127:25
 element-copy-out-wide-2 : tie.Need-element-copy-out-wide-2
 element-copy-out-wide-2 c = search needs
 
--- src/lines.rt:127:9
 wide-requires-2 : tie.Need-wide-requires-2
 wide-requires-2 c κs = search needs
 
--- src/lines.rt:128:24
 sub-kind-of : tie.Need-sub-kind-of
 sub-kind-of c = word-ends _ _ _ (c .before .before .before .before .before .before .before .pre .1 .0) 3 _ _ (omega arith) (has-field _ _ _ _ _ _ (c .before .before .before .before .before .before .before .pre .1 .0) 4 2 _ 3 (c .before .before .before .before .before .shape .ensures) (c .before .before .before .before .if1 .left) (omega arith)) (c .before .before .wide .ensures) (c .wide2 .ensures) .0
 
--- src/lines.rt:128:24
 part-kind-of-start : tie.Need-part-kind-of-start
 part-kind-of-start c = word-ends _ _ _ (c .before .before .before .before .before .before .before .pre .1 .0) 3 _ _ (omega arith) (has-field _ _ _ _ _ _ (c .before .before .before .before .before .before .before .pre .1 .0) 4 2 _ 3 (c .before .before .before .before .before .shape .ensures) (c .before .before .before .before .if1 .left) (omega arith)) (c .before .before .wide .ensures) (c .wide2 .ensures) .0
 
--- src/lines.rt:128:24
 part-kind-of-end : tie.Need-part-kind-of-end
 part-kind-of-end c = word-ends _ _ _ (c .before .before .before .before .before .before .before .pre .1 .0) 3 _ _ (omega arith) (has-field _ _ _ _ _ _ (c .before .before .before .before .before .before .before .pre .1 .0) 4 2 _ 3 (c .before .before .before .before .before .shape .ensures) (c .before .before .before .before .if1 .left) (omega arith)) (c .before .before .wide .ensures) (c .wide2 .ensures) .1
 
--- src/lines.rt:128:9
 kind-of-requires : tie.Need-kind-of-requires
 kind-of-requires c κs = search needs
 
--- src/lines.rt:130:9
 returns-2 : tie.Need-returns-2
 unfolding stretch
 returns-2 c = in-28 _ _ _ _ (c .before .before .before .before .before .before .before .before .before .before .pre .0) _ _ (c .before .before .before .before .before .before .before .before .before .before .pre .1 .0) _ _ (c .before .before .before .before .before .before .before .before .shape .ensures) (c .before .before .before .before .before .before .before .if1 .left) _ (c .before .kind-of .ensures ∙ ap kindOf (word-here _ _ _ (c .before .before .before .before .before .before .before .before .before .before .pre .1 .0) 3 _ _ (omega arith) (has-field _ _ _ _ _ _ (c .before .before .before .before .before .before .before .before .before .before .pre .1 .0) 4 2 _ 3 (c .before .before .before .before .before .before .before .before .shape .ensures) (c .before .before .before .before .before .before .before .if1 .left) (omega arith)) (c .before .before .before .before .before .wide .ensures) (c .before .before .before .wide2 .ensures))) (c .if2 .taken)
 
--- src/lines.rt:132:60
 element-copy-out-unit-named : tie.Need-element-copy-out-unit-named
 element-copy-out-unit-named c = search needs
 
--- src/lines.rt:132:9
 unit-named-requires : tie.Need-unit-named-requires
 unit-named-requires c κs = search needs
 
--- src/lines.rt:135:9
 returns-3 : tie.Need-returns-3
 unfolding stretch
 returns-3 c = in-27 _ _ _ _ (c .before .before .before .before .before .before .before .before .before .before .before .before .before .before .before .pre .0) _ _ (c .before .before .before .before .before .before .before .before .before .before .before .before .before .before .before .pre .1 .0) _ _ (c .before .before .before .before .before .before .before .before .before .before .before .before .before .shape .ensures) (c .before .before .before .before .before .before .before .before .before .before .before .before .if1 .left) _ (c .before .before .before .before .before .before .kind-of .ensures ∙ ap kindOf (word-here _ _ _ (c .before .before .before .before .before .before .before .before .before .before .before .before .before .before .before .pre .1 .0) 3 _ _ (omega arith) (has-field _ _ _ _ _ _ (c .before .before .before .before .before .before .before .before .before .before .before .before .before .before .before .pre .1 .0) 4 2 _ 3 (c .before .before .before .before .before .before .before .before .before .before .before .before .before .shape .ensures) (c .before .before .before .before .before .before .before .before .before .before .before .before .if1 .left) (omega arith)) (c .before .before .before .before .before .before .before .before .before .before .wide .ensures) (c .before .before .before .before .before .before .before .before .wide2 .ensures))) (c .before .before .before .before .before .if2 .left) _ (c .before .unit-named .ensures) (c .if3 .taken)
 
--- src/lines.rt:137:13
 element-copy-out-a : tie.Need-element-copy-out-a
 element-copy-out-a c = search needs
 
--- src/lines.rt:138:9
 input-named-requires : tie.Need-input-named-requires
 input-named-requires c κs = search needs
 
--- src/lines.rt:141:9
 returns-4 : tie.Need-returns-4
 unfolding stretch
 returns-4 c = in-26 _ _ _ _ (c .before .before .before .before .before .before .before .before .before .before .before .before .before .before .before .before .before .before .before .before .pre .0) _ _ (c .before .before .before .before .before .before .before .before .before .before .before .before .before .before .before .before .before .before .before .before .pre .1 .0) _ _ (c .before .before .before .before .before .before .before .before .before .before .before .before .before .before .before .before .before .before .shape .ensures) (c .before .before .before .before .before .before .before .before .before .before .before .before .before .before .before .before .before .if1 .left) _ (c .before .before .before .before .before .before .before .before .before .before .before .kind-of .ensures ∙ ap kindOf (word-here _ _ _ (c .before .before .before .before .before .before .before .before .before .before .before .before .before .before .before .before .before .before .before .before .pre .1 .0) 3 _ _ (omega arith) (has-field _ _ _ _ _ _ (c .before .before .before .before .before .before .before .before .before .before .before .before .before .before .before .before .before .before .before .before .pre .1 .0) 4 2 _ 3 (c .before .before .before .before .before .before .before .before .before .before .before .before .before .before .before .before .before .before .shape .ensures) (c .before .before .before .before .before .before .before .before .before .before .before .before .before .before .before .before .before .if1 .left) (omega arith)) (c .before .before .before .before .before .before .before .before .before .before .before .before .before .before .before .wide .ensures) (c .before .before .before .before .before .before .before .before .before .before .before .before .before .wide2 .ensures))) (c .before .before .before .before .before .before .before .before .before .before .if2 .left) _ (c .before .before .before .before .before .before .unit-named .ensures) (c .before .before .before .before .before .if3 .left) _ (c .before .input-named .ensures) (c .if4 .taken)
 
--- src/lines.rt:144:9
 returns-5 : tie.Need-returns-5
 unfolding stretch
 returns-5 c = in-29 _ _ _ _ (c .before .before .before .before .before .before .before .before .before .before .before .before .before .before .before .before .before .before .before .before .before .pre .0) _ _ (c .before .before .before .before .before .before .before .before .before .before .before .before .before .before .before .before .before .before .before .before .before .pre .1 .0) _ _ (c .before .before .before .before .before .before .before .before .before .before .before .before .before .before .before .before .before .before .before .shape .ensures) (c .before .before .before .before .before .before .before .before .before .before .before .before .before .before .before .before .before .before .if1 .left) _ (c .before .before .before .before .before .before .before .before .before .before .before .before .kind-of .ensures ∙ ap kindOf (word-here _ _ _ (c .before .before .before .before .before .before .before .before .before .before .before .before .before .before .before .before .before .before .before .before .before .pre .1 .0) 3 _ _ (omega arith) (has-field _ _ _ _ _ _ (c .before .before .before .before .before .before .before .before .before .before .before .before .before .before .before .before .before .before .before .before .before .pre .1 .0) 4 2 _ 3 (c .before .before .before .before .before .before .before .before .before .before .before .before .before .before .before .before .before .before .before .shape .ensures) (c .before .before .before .before .before .before .before .before .before .before .before .before .before .before .before .before .before .before .if1 .left) (omega arith)) (c .before .before .before .before .before .before .before .before .before .before .before .before .before .before .before .before .wide .ensures) (c .before .before .before .before .before .before .before .before .before .before .before .before .before .before .wide2 .ensures))) (c .before .before .before .before .before .before .before .before .before .before .before .if2 .left) _ (c .before .before .before .before .before .before .before .unit-named .ensures) (c .before .before .before .before .before .before .if3 .left) _ (c .before .before .input-named .ensures) (c .before .if4 .left) (c .if5 .taken)
 
--- src/lines.rt:146:9
 add-input-requires : tie.Need-add-input-requires
 add-input-requires c κs = (c .before .before .before .before .before .before .before .before .before .before .before .before .before .before .before .before .before .before .before .before .before .before .before .pre .0, (c .before .before .if5 .left, (omega (arith, c .before .before .before .before .before .before .before .before .if3 .left, c .before .before .before .before .before .before .before .before .before .before .before .before .before .before .before .before .before .before .before .before .before .before .before .pre .0 .units-most), c .before .before .before .before .before .before .before .before .before .before .before .before .before .before .before .before .before .before .before .before .before .before .before .pre .1 .1)))
 
--- src/lines.rt:116:1
 returns-6 : tie.Need-returns-6
 unfolding stretch
 returns-6 c = in-taken _ _ _ _ (c .before .before .before .before .before .before .before .before .before .before .before .before .before .before .before .before .before .before .before .before .before .before .before .before .pre .0) _ _ (c .before .before .before .before .before .before .before .before .before .before .before .before .before .before .before .before .before .before .before .before .before .before .before .before .pre .1 .0) _ _ (c .before .before .before .before .before .before .before .before .before .before .before .before .before .before .before .before .before .before .before .before .before .before .shape .ensures) (c .before .before .before .before .before .before .before .before .before .before .before .before .before .before .before .before .before .before .before .before .before .if1 .left) _ (c .before .before .before .before .before .before .before .before .before .before .before .before .before .before .before .kind-of .ensures ∙ ap kindOf (word-here _ _ _ (c .before .before .before .before .before .before .before .before .before .before .before .before .before .before .before .before .before .before .before .before .before .before .before .before .pre .1 .0) 3 _ _ (omega arith) (has-field _ _ _ _ _ _ (c .before .before .before .before .before .before .before .before .before .before .before .before .before .before .before .before .before .before .before .before .before .before .before .before .pre .1 .0) 4 2 _ 3 (c .before .before .before .before .before .before .before .before .before .before .before .before .before .before .before .before .before .before .before .before .before .before .shape .ensures) (c .before .before .before .before .before .before .before .before .before .before .before .before .before .before .before .before .before .before .before .before .before .if1 .left) (omega arith)) (c .before .before .before .before .before .before .before .before .before .before .before .before .before .before .before .before .before .before .before .wide .ensures) (c .before .before .before .before .before .before .before .before .before .before .before .before .before .before .before .before .before .wide2 .ensures))) (c .before .before .before .before .before .before .before .before .before .before .before .before .before .before .if2 .left) _ (c .before .before .before .before .before .before .before .before .before .before .unit-named .ensures) (c .before .before .before .before .before .before .before .before .before .if3 .left) _ (c .before .before .before .before .before .input-named .ensures) (c .before .before .before .before .if4 .left) (c .before .before .before .if5 .left) _ _ _ (c .add-input .ensures)

@@ -1,78 +1,60 @@
+-- The five words one after the other.
 use borrow.Author.Needs.{needs}
 use Rattle.text.proofs.lines.keyword_of.Statement.{statement}
 use Rattle.text.proofs.lines.keyword_of.Tie as tie
-use Rattle.text.proofs.lines.keyword_of.Reads as reads
-use Rattle.text.proofs.lines.keyword_of.Lts as lts
-use Rattle.fields.proofs.same.Reads as same-reads
 use mathlib.Core.Path.{sym, _∙_}
 use Rattle.text.specs.Took.{keywordOf}
 
--- src/lines.rt:226:27
 slice-aggregate-same : tie.Need-slice-aggregate-same
 slice-aggregate-same c = search needs
 
--- src/lines.rt:226:8
 same-requires : tie.Need-same-requires
 same-requires c κs = search needs
 
--- src/lines.rt:227:9
 returns : tie.Need-returns
 unfolding keywordOf
 returns c = rw (sym (c .before .same .ensures) ∙ c .if1 .taken)
 
--- src/lines.rt:229:27
 slice-aggregate-same-2 : tie.Need-slice-aggregate-same-2
 slice-aggregate-same-2 c = search needs
 
--- src/lines.rt:229:8
 same-requires-2 : tie.Need-same-requires-2
 same-requires-2 c κs = search needs
 
--- src/lines.rt:230:9
 returns-2 : tie.Need-returns-2
 unfolding keywordOf
 returns-2 c = rw (sym (c .before .before .before .before .same .ensures) ∙ c .before .before .before .if1 .left, sym (c .before .same2 .ensures) ∙ c .if2 .taken)
 
--- src/lines.rt:232:27
 slice-aggregate-same-3 : tie.Need-slice-aggregate-same-3
 slice-aggregate-same-3 c = search needs
 
--- src/lines.rt:232:8
 same-requires-3 : tie.Need-same-requires-3
 same-requires-3 c κs = search needs
 
--- src/lines.rt:233:9
 returns-3 : tie.Need-returns-3
 unfolding keywordOf
 returns-3 c = rw (sym (c .before .before .before .before .before .before .before .same .ensures) ∙ c .before .before .before .before .before .before .if1 .left, sym (c .before .before .before .before .same2 .ensures) ∙ c .before .before .before .if2 .left, sym (c .before .same3 .ensures) ∙ c .if3 .taken)
 
--- src/lines.rt:235:27
 slice-aggregate-same-4 : tie.Need-slice-aggregate-same-4
 slice-aggregate-same-4 c = search needs
 
--- src/lines.rt:235:8
 same-requires-4 : tie.Need-same-requires-4
 same-requires-4 c κs = search needs
 
--- src/lines.rt:236:9
 returns-4 : tie.Need-returns-4
 unfolding keywordOf
 returns-4 c = rw (sym (c .before .before .before .before .before .before .before .before .before .before .same .ensures) ∙ c .before .before .before .before .before .before .before .before .before .if1 .left, sym (c .before .before .before .before .before .before .before .same2 .ensures) ∙ c .before .before .before .before .before .before .if2 .left, sym (c .before .before .before .before .same3 .ensures) ∙ c .before .before .before .if3 .left, sym (c .before .same4 .ensures) ∙ c .if4 .taken)
 
--- src/lines.rt:238:27
 slice-aggregate-same-5 : tie.Need-slice-aggregate-same-5
 slice-aggregate-same-5 c = search needs
 
--- src/lines.rt:238:8
 same-requires-5 : tie.Need-same-requires-5
 same-requires-5 c κs = search needs
 
--- src/lines.rt:239:9
 returns-5 : tie.Need-returns-5
 unfolding keywordOf
 returns-5 c = rw (sym (c .before .before .before .before .before .before .before .before .before .before .before .before .before .same .ensures) ∙ c .before .before .before .before .before .before .before .before .before .before .before .before .if1 .left, sym (c .before .before .before .before .before .before .before .before .before .before .same2 .ensures) ∙ c .before .before .before .before .before .before .before .before .before .if2 .left, sym (c .before .before .before .before .before .before .before .same3 .ensures) ∙ c .before .before .before .before .before .before .if3 .left, sym (c .before .before .before .before .same4 .ensures) ∙ c .before .before .before .if4 .left, sym (c .before .same5 .ensures) ∙ c .if5 .taken)
 
--- src/lines.rt:223:1
 returns-6 : tie.Need-returns-6
 unfolding keywordOf
 returns-6 c = rw (sym (c .before .before .before .before .before .before .before .before .before .before .before .before .before .same .ensures) ∙ c .before .before .before .before .before .before .before .before .before .before .before .before .if1 .left, sym (c .before .before .before .before .before .before .before .before .before .before .same2 .ensures) ∙ c .before .before .before .before .before .before .before .before .before .if2 .left, sym (c .before .before .before .before .before .before .before .same3 .ensures) ∙ c .before .before .before .before .before .before .if3 .left, sym (c .before .before .before .before .same4 .ensures) ∙ c .before .before .before .if4 .left, sym (c .before .same5 .ensures) ∙ c .if5 .left)

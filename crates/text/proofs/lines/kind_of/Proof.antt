@@ -1,39 +1,30 @@
+-- The two words one after the other.
 use borrow.Author.Needs.{needs}
 use Rattle.text.proofs.lines.kind_of.Statement.{statement}
 use Rattle.text.proofs.lines.kind_of.Tie as tie
-use Rattle.text.proofs.lines.kind_of.Reads as reads
-use Rattle.text.proofs.lines.kind_of.Lts as lts
-use Rattle.fields.proofs.same.Reads as same-reads
 use mathlib.Core.Path.{sym, _∙_}
 use Rattle.grammar.specs.Lines.{kindOf}
 
--- src/lines.rt:106:27
 slice-aggregate-same : tie.Need-slice-aggregate-same
 slice-aggregate-same c = search needs
 
--- src/lines.rt:106:8
 same-requires : tie.Need-same-requires
 same-requires c κs = search needs
 
--- src/lines.rt:107:9
 returns : tie.Need-returns
 unfolding kindOf
 returns c = rw (sym (c .before .same .ensures) ∙ c .if1 .taken)
 
--- src/lines.rt:109:27
 slice-aggregate-same-2 : tie.Need-slice-aggregate-same-2
 slice-aggregate-same-2 c = search needs
 
--- src/lines.rt:109:8
 same-requires-2 : tie.Need-same-requires-2
 same-requires-2 c κs = search needs
 
--- src/lines.rt:110:9
 returns-2 : tie.Need-returns-2
 unfolding kindOf
 returns-2 c = rw (sym (c .before .before .before .before .same .ensures) ∙ c .before .before .before .if1 .left, sym (c .before .same2 .ensures) ∙ c .if2 .taken)
 
--- src/lines.rt:103:1
 returns-3 : tie.Need-returns-3
 unfolding kindOf
 returns-3 c = rw (sym (c .before .before .before .before .same .ensures) ∙ c .before .before .before .if1 .left, sym (c .before .same2 .ensures) ∙ c .if2 .left)

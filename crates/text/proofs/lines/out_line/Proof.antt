@@ -1,56 +1,40 @@
+-- One law for each return.
 use borrow.Author.Needs.{needs}
 use Rattle.text.proofs.lines.out_line.Statement.{statement}
 use Rattle.text.proofs.lines.out_line.Tie as tie
-use Rattle.text.proofs.lines.out_line.Reads as reads
-use Rattle.text.proofs.lines.out_line.Lts as lts
-use Rattle.text.proofs.draft.add_output.Reads as add-output-reads
-use Rattle.text.proofs.draft.output_named.Reads as output-named-reads
-use Rattle.text.proofs.draft.unit_named.Reads as unit-named-reads
-use Rattle.text.proofs.lines.shape.Reads as shape-reads
 use Rattle.text.proofs.Declared.{out-stops, out-27, out-26, out-29, out-taken}
 use native.Mathlib.Omega.{arith}
 
--- src/lines.rt:79:9
 shape-requires : tie.Need-shape-requires
 shape-requires c κs = search needs
 
--- src/lines.rt:81:9
 returns : tie.Need-returns
 returns c = out-stops _ _ _ _ (c .before .before .before .pre .0) _ _ (c .before .before .before .pre .1) _ (c .before .shape .ensures) (c .if1 .taken)
 
--- src/lines.rt:83:60
 element-copy-out-unit-named : tie.Need-element-copy-out-unit-named
 element-copy-out-unit-named c = search needs
 
--- src/lines.rt:83:9
 unit-named-requires : tie.Need-unit-named-requires
 unit-named-requires c κs = search needs
 
--- src/lines.rt:86:9
 returns-2 : tie.Need-returns-2
 returns-2 c = out-27 _ _ _ _ (c .before .before .before .before .before .before .before .before .pre .0) _ _ (c .before .before .before .before .before .before .before .before .pre .1) _ (c .before .before .before .before .before .before .shape .ensures) (c .before .before .before .before .before .if1 .left) _ (c .before .unit-named .ensures) (c .if2 .taken)
 
--- src/lines.rt:88:13
 element-copy-out-a : tie.Need-element-copy-out-a
 element-copy-out-a c = search needs
 
--- src/lines.rt:89:9
 output-named-requires : tie.Need-output-named-requires
 output-named-requires c κs = search needs
 
--- src/lines.rt:92:9
 returns-3 : tie.Need-returns-3
 returns-3 c = out-26 _ _ _ _ (c .before .before .before .before .before .before .before .before .before .before .before .before .before .pre .0) _ _ (c .before .before .before .before .before .before .before .before .before .before .before .before .before .pre .1) _ (c .before .before .before .before .before .before .before .before .before .before .before .shape .ensures) (c .before .before .before .before .before .before .before .before .before .before .if1 .left) _ (c .before .before .before .before .before .before .unit-named .ensures) (c .before .before .before .before .before .if2 .left) _ (c .before .output-named .ensures) (c .if3 .taken)
 
--- src/lines.rt:95:9
 returns-4 : tie.Need-returns-4
 returns-4 c = out-29 _ _ _ _ (c .before .before .before .before .before .before .before .before .before .before .before .before .before .before .pre .0) _ _ (c .before .before .before .before .before .before .before .before .before .before .before .before .before .before .pre .1) _ (c .before .before .before .before .before .before .before .before .before .before .before .before .shape .ensures) (c .before .before .before .before .before .before .before .before .before .before .before .if1 .left) _ (c .before .before .before .before .before .before .before .unit-named .ensures) (c .before .before .before .before .before .before .if2 .left) _ (c .before .before .output-named .ensures) (c .before .if3 .left) (c .if4 .taken)
 
--- src/lines.rt:97:9
 add-output-requires : tie.Need-add-output-requires
 add-output-requires c κs = (c .before .before .before .before .before .before .before .before .before .before .before .before .before .before .before .before .pre .0, (c .before .before .if4 .left, omega (arith, c .before .before .before .before .before .before .before .before .if2 .left, c .before .before .before .before .before .before .before .before .before .before .before .before .before .before .before .before .pre .0 .units-most)))
 
--- src/lines.rt:74:1
 returns-5 : tie.Need-returns-5
 returns-5 c = out-taken _ _ _ _ (c .before .before .before .before .before .before .before .before .before .before .before .before .before .before .before .before .before .pre .0) _ _ (c .before .before .before .before .before .before .before .before .before .before .before .before .before .before .before .before .before .pre .1) _ (c .before .before .before .before .before .before .before .before .before .before .before .before .before .before .before .shape .ensures) (c .before .before .before .before .before .before .before .before .before .before .before .before .before .before .if1 .left) _ (c .before .before .before .before .before .before .before .before .before .before .unit-named .ensures) (c .before .before .before .before .before .before .before .before .before .if2 .left) _ (c .before .before .before .before .before .output-named .ensures) (c .before .before .before .before .if3 .left) (c .before .before .before .if4 .left) _ _ _ (c .add-output .ensures)
 

@@ -1,25 +1,18 @@
-use borrow.Author.Needs.{needs}
+-- 24, then 25, by the fields that are told.
 use Rattle.text.proofs.lines.shape.Statement.{statement}
 use Rattle.text.proofs.lines.shape.Tie as tie
-use Rattle.text.proofs.lines.shape.Reads as reads
-use Rattle.text.proofs.lines.shape.Lts as lts
-use Rattle.text.proofs.lines.faulty.Reads as faulty-reads
 use Rattle.text.proofs.Shape.{shape-count, shape-name, shape-good}
 use native.Mathlib.Omega.{arith}
 
--- src/lines.rt:43:9
 returns : tie.Need-returns
 returns c = shape-count _ _ _ _ (c .before .before .before .pre .0 .count-is) (c .if1 .taken)
 
--- src/lines.rt:45:8
 faulty-requires : tie.Need-faulty-requires
 faulty-requires c κs = (c .before .before .before .pre .0, (c .before .before .before .pre .1 .0, omega (arith, c .if1 .left)))
 
--- src/lines.rt:46:9
 returns-2 : tie.Need-returns-2
 returns-2 c = shape-name _ _ _ _ (c .before .before .before .before .before .pre .0 .count-is) _ (c .before .before .if1 .left) (c .before .faulty .ensures) (c .if2 .taken)
 
--- src/lines.rt:37:1
 returns-3 : tie.Need-returns-3
 returns-3 c = shape-good _ _ _ _ (c .before .before .before .before .before .pre .0 .count-is) _ (c .before .before .if1 .left) (c .before .faulty .ensures) (c .if2 .left)
 

@@ -1,43 +1,30 @@
+-- One law for each return.
 use borrow.Author.Needs.{needs}
 use Rattle.text.proofs.lines.unit_line.Statement.{statement}
 use Rattle.text.proofs.lines.unit_line.Tie as tie
-use Rattle.text.proofs.lines.unit_line.Reads as reads
-use Rattle.text.proofs.lines.unit_line.Lts as lts
-use Rattle.text.proofs.draft.add_unit.Reads as add-unit-reads
-use Rattle.text.proofs.draft.unit_named.Reads as unit-named-reads
-use Rattle.text.proofs.lines.shape.Reads as shape-reads
 use Rattle.text.proofs.Declared.{unit-stops, unit-26, unit-29, unit-taken}
-use native.Mathlib.Omega.{arith}
 
--- src/lines.rt:56:9
 shape-requires : tie.Need-shape-requires
 shape-requires c κs = search needs
 
--- src/lines.rt:58:9
 returns : tie.Need-returns
 returns c = unit-stops _ _ _ _ (c .before .before .before .pre .0) _ _ (c .before .before .before .pre .1) _ (c .before .shape .ensures) (c .if1 .taken)
 
--- src/lines.rt:60:13
 element-copy-out-a : tie.Need-element-copy-out-a
 element-copy-out-a c = search needs
 
--- src/lines.rt:61:9
 unit-named-requires : tie.Need-unit-named-requires
 unit-named-requires c κs = search needs
 
--- src/lines.rt:64:9
 returns-2 : tie.Need-returns-2
 returns-2 c = unit-26 _ _ _ _ (c .before .before .before .before .before .before .before .before .pre .0) _ _ (c .before .before .before .before .before .before .before .before .pre .1) _ (c .before .before .before .before .before .before .shape .ensures) (c .before .before .before .before .before .if1 .left) _ (c .before .unit-named .ensures) (c .if2 .taken)
 
--- src/lines.rt:67:9
 returns-3 : tie.Need-returns-3
 returns-3 c = unit-29 _ _ _ _ (c .before .before .before .before .before .before .before .before .before .pre .0) _ _ (c .before .before .before .before .before .before .before .before .before .pre .1) _ (c .before .before .before .before .before .before .before .shape .ensures) (c .before .before .before .before .before .before .if1 .left) _ (c .before .before .unit-named .ensures) (c .before .if2 .left) (c .if3 .taken)
 
--- src/lines.rt:69:9
 add-unit-requires : tie.Need-add-unit-requires
 add-unit-requires c κs = search needs
 
--- src/lines.rt:51:1
 returns-4 : tie.Need-returns-4
 returns-4 c = unit-taken _ _ _ _ (c .before .before .before .before .before .before .before .before .before .before .before .before .pre .0) _ _ (c .before .before .before .before .before .before .before .before .before .before .before .before .pre .1) _ (c .before .before .before .before .before .before .before .before .before .before .shape .ensures) (c .before .before .before .before .before .before .before .before .before .if1 .left) _ (c .before .before .before .before .before .unit-named .ensures) (c .before .before .before .before .if2 .left) (c .before .before .before .if3 .left) _ _ _ (c .add-unit .ensures)
 

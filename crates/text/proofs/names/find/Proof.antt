@@ -1,12 +1,9 @@
+-- The loop keeps that no name passed over is the one sought: its mark differs, or it was compared.
 use Rattle.text.proofs.names.find.Statement.{statement}
 use Rattle.text.proofs.names.find.Tie as tie
-use Rattle.text.proofs.names.find.Reads as reads
-use Rattle.text.proofs.names.find.Lts as lts
-use Rattle.notes.proofs.mark.Reads as mark-reads
-use Rattle.text.proofs.names.is_named.Reads as is-named-reads
 use borrow.Author.Needs.{needs}
 use Prim.Native.Nat.{ℕ, _+_, _-_, _<_, _≤_}
-use mathlib.Core.Path.{_≡_, sym, _∙_}
+use mathlib.Core.Path.{sym, _∙_}
 use mathlib.Core.Bool.{not}
 use mathlib.Core.Logic.{⊎-elim}
 use native.Mathlib.Omega.{arith}
@@ -24,47 +21,36 @@ Inv-loop text places slots base count owner a m i₀ i = (i ≤ count) × ((k : 
 abbrev μ-loop : tie.MeasureT-loop
 μ-loop text places slots base count owner a m i₀ i = count - i
 
--- src/names.rt:26:9
 mark-requires : tie.Need-mark-requires Inv-loop μ-loop
 mark-requires c κs = search needs
 
--- src/names.rt:28:5
 loop-holds : tie.Need-loop-holds Inv-loop μ-loop
 loop-holds c = (omega arith, λ k h. absurd (omega arith))
 
--- src/names.rt:29:18
 add-if1 : tie.Need-add-if1 Inv-loop μ-loop
 add-if1 c = omega (arith, c .before .before .before .before .pre .low)
 
--- src/names.rt:29:12
 element-copy-out-if1 : tie.Need-element-copy-out-if1 Inv-loop μ-loop
 element-copy-out-if1 c = omega (arith, c .before .before .before .before .pre .low)
 
--- src/names.rt:29:66
 add-is-named : tie.Need-add-is-named Inv-loop μ-loop
 add-is-named c = omega (arith, c .before .before .before .before .before .before .pre .low)
 
--- src/names.rt:29:36
 is-named-requires : tie.Need-is-named-requires Inv-loop μ-loop
 is-named-requires c κs = omega (arith, c .before .before .before .before .before .before .pre .low)
 
--- src/names.rt:30:13
 returns : tie.Need-returns Inv-loop μ-loop
 returns c = found _ _ _ (c .before .before .before .before .loop-test .taken) (c .before .before .before .before .before .loop .inv .1) (says (c .before .is-named .ensures) (c .if2 .taken))
 
--- src/names.rt:32:9
 add-i : tie.Need-add-i Inv-loop μ-loop
 add-i c = omega arith
 
--- src/names.rt:28:5
 loop-less : tie.Need-loop-less Inv-loop μ-loop
 loop-less c = omega arith
 
--- src/names.rt:28:5
 loop-again : tie.Need-loop-again Inv-loop μ-loop
 loop-again c = (omega arith, below-more _ _ (c .before .before .before .loop .inv .1) (⊎-elim (λ w. denies (w .1 .ensures) (w .2 .left)) (λ w. passed-over _ _ _ _ _ _ (c .before .before .before .before .before .before .pre .marked _ (c .before .before .loop-test .taken)) (λ e. w .left (e ∙ sym (c .before .before .before .before .mark .ensures)))) (c .if1 .came)))
 
--- src/names.rt:22:1
 returns-2 : tie.Need-returns-2 Inv-loop μ-loop
 returns-2 c = not-found _ _ _ (omega arith) (c .before .loop .inv .0) (c .before .loop .inv .1)
 

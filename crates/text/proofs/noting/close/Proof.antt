@@ -1,42 +1,30 @@
+-- One law for each return.
 use borrow.Author.Needs.{needs}
 use Rattle.text.proofs.noting.close.Statement.{statement}
 use Rattle.text.proofs.noting.close.Tie as tie
-use Rattle.text.proofs.noting.close.Reads as reads
-use Rattle.text.proofs.noting.close.Lts as lts
-use Rattle.text.proofs.draft.loose.Reads as loose-reads
-use Rattle.text.proofs.names.wide.Reads as wide-reads
-use native.Mathlib.Omega.{arith}
 use Rattle.text.proofs.Noticing.{close-33, close-31, close-none}
 
--- src/noting.rt:20:9
 returns : tie.Need-returns
 returns c = close-33 _ _ _ _ (c .if1 .taken)
 
--- src/noting.rt:22:9
 loose-requires : tie.Need-loose-requires
 loose-requires c κs = search needs
 
--- src/noting.rt:25:62
 add-wide : tie.Need-add-wide
 add-wide c = search needs
 
--- src/noting.rt:25:55
 mul-wide : tie.Need-mul-wide
 mul-wide c = search needs
 
--- src/noting.rt:25:55
 element-copy-out-wide : tie.Need-element-copy-out-wide
 element-copy-out-wide c = search needs
 
--- src/noting.rt:25:43
 wide-requires : tie.Need-wide-requires
 wide-requires c κs = search needs
 
--- src/noting.rt:25:9
 returns-2 : tie.Need-returns-2
 returns-2 c = close-31 _ _ _ _ (c .before .before .before .before .if1 .left) _ (c .before .before .before .loose .ensures) (c .before .before .if2 .taken) _ (c .wide .ensures)
 
--- src/noting.rt:14:1
 returns-3 : tie.Need-returns-3
 returns-3 c = close-none _ _ _ _ (c .before .before .if1 .left) _ (c .before .loose .ensures) (c .if2 .left)
 

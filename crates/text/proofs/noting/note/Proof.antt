@@ -1,55 +1,38 @@
+-- One law for each return.
 use borrow.Author.Needs.{needs}
 use Rattle.text.proofs.noting.note.Statement.{statement}
 use Rattle.text.proofs.noting.note.Tie as tie
-use Rattle.text.proofs.noting.note.Reads as reads
-use Rattle.text.proofs.noting.note.Lts as lts
-use Rattle.fields.proofs.fields_at.Reads as fields-at-reads
-use Rattle.text.proofs.names.wide.Reads as wide-reads
-use Rattle.text.proofs.noting.close.Reads as close-reads
-use Rattle.text.proofs.walk.walk.Reads as walk-reads
-use Rattle.text.proofs.whole.check.Reads as check-reads
-use Rattle.text.proofs.whole.version.Reads as version-reads
 use native.Mathlib.Omega.{arith}
 use Rattle.text.proofs.Going.{told-fields}
 use Rattle.text.proofs.Noticing.{notice-whole, notice-23, notice-line, notice-close}
 
--- src/noting.rt:36:9
 check-requires : tie.Need-check-requires
 check-requires c κs = search needs
 
--- src/noting.rt:39:9
 returns : tie.Need-returns
 returns c = notice-whole _ _ _ _ (c .before .check .ensures) (c .if1 .taken) _
 
--- src/noting.rt:41:9
 fields-at-requires : tie.Need-fields-at-requires
 fields-at-requires c κs = search needs
 
--- src/noting.rt:42:8
 version-requires : tie.Need-version-requires
 version-requires c κs = told-fields _ _ _ (c .before .before .check .ensures .ended (c .before .if1 .left)) (c .before .before .check .ensures .ended (c .before .if1 .left) .some) (c .fields-at .ensures)
 
--- src/noting.rt:43:9
 returns-2 : tie.Need-returns-2
 returns-2 c = notice-23 _ _ _ _ (c .before .before .before .before .check .ensures) (c .before .before .before .if1 .left) _ (told-fields _ _ _ (c .before .before .before .before .check .ensures .ended (c .before .before .before .if1 .left)) (c .before .before .before .before .check .ensures .ended (c .before .before .before .if1 .left) .some) (c .before .before .fields-at .ensures)) _ (c .before .version .ensures) (c .if2 .taken) _
 
--- src/noting.rt:45:49
 wide-requires : tie.Need-wide-requires
 wide-requires c κs = search needs
 
--- src/noting.rt:45:9
 walk-requires : tie.Need-walk-requires
 walk-requires c κs = (c .before .before .before .before .before .before .before .check .ensures .ended (c .before .before .before .before .before .before .if1 .left), (c .before .before .before .before .before .before .before .before .before .pre, omega (arith, c .wide .ensures, (told-fields _ _ _ (c .before .before .before .before .before .before .before .check .ensures .ended (c .before .before .before .before .before .before .if1 .left)) (c .before .before .before .before .before .before .before .check .ensures .ended (c .before .before .before .before .before .before .if1 .left) .some) (c .before .before .before .before .before .fields-at .ensures)) .inside)))
 
--- src/noting.rt:48:9
 returns-3 : tie.Need-returns-3
 returns-3 c = notice-line _ _ _ _ (c .before .before .before .before .before .before .before .before .before .check .ensures) (c .before .before .before .before .before .before .before .before .if1 .left) _ (told-fields _ _ _ (c .before .before .before .before .before .before .before .before .before .check .ensures .ended (c .before .before .before .before .before .before .before .before .if1 .left)) (c .before .before .before .before .before .before .before .before .before .check .ensures .ended (c .before .before .before .before .before .before .before .before .if1 .left) .some) (c .before .before .before .before .before .before .before .fields-at .ensures)) _ (c .before .before .before .before .before .before .version .ensures) (c .before .before .before .before .before .if2 .left) _ _ (c .before .before .wide .ensures) (c .before .walk .ensures) (c .if3 .taken)
 
--- src/noting.rt:50:5
 close-requires : tie.Need-close-requires
 close-requires c κs = c .before .before .before .walk .ensures .fit
 
--- src/noting.rt:31:1
 returns-4 : tie.Need-returns-4
 returns-4 c = notice-close _ _ _ _ (c .before .before .before .before .before .before .before .before .before .before .before .before .check .ensures) (c .before .before .before .before .before .before .before .before .before .before .before .if1 .left) _ (told-fields _ _ _ (c .before .before .before .before .before .before .before .before .before .before .before .before .check .ensures .ended (c .before .before .before .before .before .before .before .before .before .before .before .if1 .left)) (c .before .before .before .before .before .before .before .before .before .before .before .before .check .ensures .ended (c .before .before .before .before .before .before .before .before .before .before .before .if1 .left) .some) (c .before .before .before .before .before .before .before .before .before .before .fields-at .ensures)) _ (c .before .before .before .before .before .before .before .before .before .version .ensures) (c .before .before .before .before .before .before .before .before .if2 .left) _ _ (c .before .before .before .before .before .wide .ensures) (c .before .before .before .before .walk .ensures) _ (c .before .before .before .if3 .left) (c .close .ensures)
 

@@ -1,67 +1,49 @@
+-- One law for each return.
 use borrow.Author.Needs.{needs}
 use Rattle.text.proofs.whole.check.Statement.{statement}
 use Rattle.text.proofs.whole.check.Tie as tie
-use Rattle.text.proofs.whole.check.Reads as reads
-use Rattle.text.proofs.whole.check.Lts as lts
-use Rattle.scan.proofs.first_bad.Reads as first-bad-reads
-use Rattle.scan.proofs.line_ends.Reads as line-ends-reads
 use native.Mathlib.Omega.{arith}
-use lib.ListN.{length}
 use lib.Seq.{length-take-le}
 use Rattle.grammar.specs.Words.{lf}
-use Rattle.text.proofs.Checks.{check-empty, check-long, check-21, check-22, check-passed, times-le}
-use mathlib.Core.Path.{sym}
 use Rattle.text.proofs.Checks.{check-empty, check-long, check-21, check-22, check-passed, times-le, times-part}
+use mathlib.Core.Path.{sym}
 
--- src/whole.rt:17:9
 returns : tie.Need-returns
 returns c = check-empty _ (c .if1 .taken)
 
--- src/whole.rt:20:9
 returns-2 : tie.Need-returns-2
 returns-2 c = check-long _ (c .before .if1 .left) (c .if2 .taken)
 
--- src/whole.rt:22:13
 sub-if3 : tie.Need-sub-if3
 sub-if3 c = search needs
 
--- src/whole.rt:22:8
 shared-slice-read-if3 : tie.Need-shared-slice-read-if3
 shared-slice-read-if3 c = search needs
 
--- src/whole.rt:23:42
 line-ends-requires : tie.Need-line-ends-requires
 line-ends-requires c κs = search needs
 
--- src/whole.rt:23:42
 add-t9 : tie.Need-add-t9
 add-t9 c = omega (arith, c .line-ends .ensures, times-le lf (c .before .before .before .before .before .before .args .text .now))
 
--- src/whole.rt:23:9
 returns-3 : tie.Need-returns-3
 returns-3 c = check-21 _ (c .before .before .before .before .if1 .left) (c .before .before .before .if2 .left) (c .before .if3 .taken) _ (c .line-ends .ensures)
 
--- src/whole.rt:25:9
 first-bad-requires : tie.Need-first-bad-requires
 first-bad-requires c κs = search needs
 
--- src/whole.rt:27:58
 slice-aggregate-line-ends : tie.Need-slice-aggregate-line-ends
 slice-aggregate-line-ends c = sym (length-take-le _ _ (omega arith))
 
--- src/whole.rt:27:42
 line-ends-requires-2 : tie.Need-line-ends-requires-2
 line-ends-requires-2 c κs = search needs
 
--- src/whole.rt:27:42
 add-t13 : tie.Need-add-t13
 add-t13 c = omega (arith, c .line-ends2 .ensures, times-part lf (c .before .before .before .first-bad .result) (c .before .before .before .before .before .before .before .before .before .args .text .now) (omega arith))
 
--- src/whole.rt:27:9
 returns-4 : tie.Need-returns-4
 returns-4 c = check-22 _ (c .before .before .before .before .before .before .before .if1 .left) (c .before .before .before .before .before .before .if2 .left) (c .before .before .before .before .if3 .left) _ (c .before .before .before .first-bad .ensures) (c .before .before .if4 .taken) _ (c .line-ends2 .ensures)
 
--- src/whole.rt:12:1
 returns-5 : tie.Need-returns-5
 returns-5 c = check-passed _ (c .before .before .before .before .before .if1 .left) (c .before .before .before .before .if2 .left) (c .before .before .if3 .left) _ (c .before .first-bad .ensures) (c .if4 .left)
 

@@ -1,10 +1,7 @@
+-- One law for each return; each word is the field between its ends.
 use borrow.Author.Needs.{needs}
 use Rattle.text.proofs.whole.version.Statement.{statement}
 use Rattle.text.proofs.whole.version.Tie as tie
-use Rattle.text.proofs.whole.version.Reads as reads
-use Rattle.text.proofs.whole.version.Lts as lts
-use Rattle.fields.proofs.same.Reads as same-reads
-use Rattle.text.proofs.names.wide.Reads as wide-reads
 use mathlib.Core.Path.{sym, _∙_}
 use native.Mathlib.Omega.{arith}
 use borrow.Author.Tests.{not-true, not-false}
@@ -12,93 +9,71 @@ use Rattle.grammar.specs.Rows.{stretch}
 use Rattle.text.proofs.Outcomes.{first-word, word-here, word-ends}
 use Rattle.text.proofs.Checks.{version-count, version-word, version-other, version-one}
 
--- src/whole.rt:38:9
 returns : tie.Need-returns
 returns c = version-count _ _ (c .before .before .pre .count-is) (c .if1 .taken)
 
--- src/whole.rt:40:25
 element-copy-out-wide : tie.Need-element-copy-out-wide
 element-copy-out-wide c = search needs
 
--- src/whole.rt:40:9
 wide-requires : tie.Need-wide-requires
 wide-requires c κs = search needs
 
--- src/whole.rt:41:25
 element-copy-out-wide-2 : tie.Need-element-copy-out-wide-2
 element-copy-out-wide-2 c = search needs
 
--- src/whole.rt:41:9
 wide-requires-2 : tie.Need-wide-requires-2
 wide-requires-2 c κs = search needs
 
--- src/whole.rt:42:22
 sub-same : tie.Need-sub-same
 sub-same c = word-ends _ _ _ (c .before .before .before .before .before .before .pre) 0 _ _ (omega arith) (c .before .before .before .before .before .before .pre .some) (c .before .before .wide .ensures) (c .wide2 .ensures) .0
 
--- src/whole.rt:42:22
 part-same-start : tie.Need-part-same-start
 part-same-start c = word-ends _ _ _ (c .before .before .before .before .before .before .pre) 0 _ _ (omega arith) (c .before .before .before .before .before .before .pre .some) (c .before .before .wide .ensures) (c .wide2 .ensures) .0
 
--- src/whole.rt:42:22
 part-same-end : tie.Need-part-same-end
 part-same-end c = word-ends _ _ _ (c .before .before .before .before .before .before .pre) 0 _ _ (omega arith) (c .before .before .before .before .before .before .pre .some) (c .before .before .wide .ensures) (c .wide2 .ensures) .1
 
--- src/whole.rt:42:35
 slice-aggregate-same : tie.Need-slice-aggregate-same
 slice-aggregate-same c = search needs
 
--- src/whole.rt:42:9
 same-requires : tie.Need-same-requires
 same-requires c κs = search needs
 
--- src/whole.rt:43:9
 returns-2 : tie.Need-returns-2
 unfolding stretch
 returns-2 c = version-word _ _ (c .before .before .before .before .before .before .before .before .before .before .pre .count-is) (c .before .before .before .before .before .before .before .before .if1 .left) _ (first-word _ _ _ (c .before .before .before .before .before .before .before .before .before .before .pre) _ _ (c .before .before .before .before .before .before .wide .ensures) (c .before .before .before .before .wide2 .ensures)) (sym (c .before .same .ensures) ∙ not-true _ (c .if2 .taken))
 
--- src/whole.rt:45:25
 element-copy-out-wide-3 : tie.Need-element-copy-out-wide-3
 element-copy-out-wide-3 c = search needs
 
--- src/whole.rt:45:9
 wide-requires-3 : tie.Need-wide-requires-3
 wide-requires-3 c κs = search needs
 
--- src/whole.rt:46:25
 element-copy-out-wide-4 : tie.Need-element-copy-out-wide-4
 element-copy-out-wide-4 c = search needs
 
--- src/whole.rt:46:9
 wide-requires-4 : tie.Need-wide-requires-4
 wide-requires-4 c κs = search needs
 
--- src/whole.rt:47:22
 sub-same-2 : tie.Need-sub-same-2
 sub-same-2 c = word-ends _ _ _ (c .before .before .before .before .before .before .before .before .before .before .before .before .before .before .pre) 1 _ _ (omega arith) (omega (arith, c .before .before .before .before .before .before .before .before .before .before .before .before .if1 .left)) (c .before .before .wide3 .ensures) (c .wide4 .ensures) .0
 
--- src/whole.rt:47:22
 part-same-start-2 : tie.Need-part-same-start-2
 part-same-start-2 c = word-ends _ _ _ (c .before .before .before .before .before .before .before .before .before .before .before .before .before .before .pre) 1 _ _ (omega arith) (omega (arith, c .before .before .before .before .before .before .before .before .before .before .before .before .if1 .left)) (c .before .before .wide3 .ensures) (c .wide4 .ensures) .0
 
--- src/whole.rt:47:22
 part-same-end-2 : tie.Need-part-same-end-2
 part-same-end-2 c = word-ends _ _ _ (c .before .before .before .before .before .before .before .before .before .before .before .before .before .before .pre) 1 _ _ (omega arith) (omega (arith, c .before .before .before .before .before .before .before .before .before .before .before .before .if1 .left)) (c .before .before .wide3 .ensures) (c .wide4 .ensures) .1
 
--- src/whole.rt:47:35
 slice-aggregate-same-2 : tie.Need-slice-aggregate-same-2
 slice-aggregate-same-2 c = search needs
 
--- src/whole.rt:47:9
 same-requires-2 : tie.Need-same-requires-2
 same-requires-2 c κs = search needs
 
--- src/whole.rt:48:9
 returns-3 : tie.Need-returns-3
 unfolding stretch
 returns-3 c = version-other _ _ (c .before .before .before .before .before .before .before .before .before .before .before .before .before .before .before .before .before .before .pre .count-is) (c .before .before .before .before .before .before .before .before .before .before .before .before .before .before .before .before .if1 .left) _ (first-word _ _ _ (c .before .before .before .before .before .before .before .before .before .before .before .before .before .before .before .before .before .before .pre) _ _ (c .before .before .before .before .before .before .before .before .before .before .before .before .before .before .wide .ensures) (c .before .before .before .before .before .before .before .before .before .before .before .before .wide2 .ensures)) (sym (c .before .before .before .before .before .before .before .before .before .same .ensures) ∙ not-false _ (c .before .before .before .before .before .before .before .before .if2 .left)) _ (word-here _ _ _ (c .before .before .before .before .before .before .before .before .before .before .before .before .before .before .before .before .before .before .pre) 1 _ _ (omega arith) (omega (arith, c .before .before .before .before .before .before .before .before .before .before .before .before .before .before .before .before .if1 .left)) (c .before .before .before .before .before .before .wide3 .ensures) (c .before .before .before .before .wide4 .ensures) ∙ c .before .before .before .before .before .before .before .before .before .before .before .before .before .before .before .before .before .before .pre .words 1 (omega arith) (omega (arith, c .before .before .before .before .before .before .before .before .before .before .before .before .before .before .before .before .if1 .left))) (sym (c .before .same2 .ensures) ∙ not-true _ (c .if3 .taken))
 
--- src/whole.rt:33:1
 returns-4 : tie.Need-returns-4
 unfolding stretch
 returns-4 c = version-one _ _ (c .before .before .before .before .before .before .before .before .before .before .before .before .before .before .before .before .before .before .pre .count-is) (c .before .before .before .before .before .before .before .before .before .before .before .before .before .before .before .before .if1 .left) _ (first-word _ _ _ (c .before .before .before .before .before .before .before .before .before .before .before .before .before .before .before .before .before .before .pre) _ _ (c .before .before .before .before .before .before .before .before .before .before .before .before .before .before .wide .ensures) (c .before .before .before .before .before .before .before .before .before .before .before .before .wide2 .ensures)) (sym (c .before .before .before .before .before .before .before .before .before .same .ensures) ∙ not-false _ (c .before .before .before .before .before .before .before .before .if2 .left)) _ (word-here _ _ _ (c .before .before .before .before .before .before .before .before .before .before .before .before .before .before .before .before .before .before .pre) 1 _ _ (omega arith) (omega (arith, c .before .before .before .before .before .before .before .before .before .before .before .before .before .before .before .before .if1 .left)) (c .before .before .before .before .before .before .wide3 .ensures) (c .before .before .before .before .wide4 .ensures) ∙ c .before .before .before .before .before .before .before .before .before .before .before .before .before .before .before .before .before .before .pre .words 1 (omega arith) (omega (arith, c .before .before .before .before .before .before .before .before .before .before .before .before .before .before .before .before .if1 .left))) (sym (c .before .same2 .ensures) ∙ not-false _ (c .if3 .left))
