@@ -14,6 +14,7 @@ use table::parts::unit_count;
 
 mod conditions;
 pub mod records;
+mod scans;
 
 // Which call numbers below 224 are done.
 pub struct Run {

@@ -4,13 +4,12 @@ use Rattle.judge.proofs.in_turn.Tie as tie
 use borrow.Author.Needs.{needs}
 use Prim.Native.Nat.{_≤_, _-_}
 use mathlib.Core.Path.{_≡_, refl, sym, _∙_}
-use native.Mathlib.Omega.{arith}
 use lib.ListN.{length, drop, length-set}
 use Rattle.search.specs.Sets.{none}
 use Rattle.table.specs.Packed.{shapeOf}
 use Rattle.judging.specs.Verdict.{verdictFrom}
 use Rattle.judge.specs.Marks.{marks}
-use Rattle.judge.proofs.Turns.{taken-small, turn-starts, turn-on, turn-off, turn-ends}
+use Rattle.judge.proofs.Turns.{byte-fits, taken-small, turn-starts, turn-on, turn-off, turn-ends}
 
 abbrev Inv-loop : tie.InvT-loop
 Inv-loop table order done₀ place₀ done place = (place ≤ length order) × (length done ≡ 224) × (verdictFrom (shapeOf table) none order 0 ≡ verdictFrom (shapeOf table) (marks done) (drop place order) place)
@@ -25,7 +24,7 @@ shared-slice-read-call : tie.Need-shared-slice-read-call Inv-loop μ-loop
 shared-slice-read-call c = search needs
 
 cast-call : tie.Need-cast-call Inv-loop μ-loop
-cast-call c = omega (arith, c .shared-slice-known3 .given (c .before .before .loop .place))
+cast-call c = byte-fits _ ((c .shared-slice-known3 .given _) .fits)
 
 refusal-at-requires : tie.Need-refusal-at-requires Inv-loop μ-loop
 refusal-at-requires c κs = c .before .before .before .before .before .before .pre

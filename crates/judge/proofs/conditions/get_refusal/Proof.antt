@@ -4,7 +4,8 @@ use Rattle.judge.proofs.conditions.get_refusal.Statement.{statement}
 use Rattle.judge.proofs.conditions.get_refusal.Tie as tie
 use mathlib.Core.Path.{sym, _∙_}
 use native.Mathlib.Omega.{arith}
-use Rattle.judge.proofs.Refusals.{get-12, get-15, get-16, get-0, unstepped-is, unfed-is, feeds-room, output-small}
+use Rattle.judge.proofs.Refusals.{get-12, get-15, get-16, get-0}
+use Rattle.judge.proofs.Scanned.{unstepped-is, unfed-is, feeds-room, output-small}
 
 returns : tie.Need-returns
 returns c = get-12 _ _ _ _ (c .if1 .taken)

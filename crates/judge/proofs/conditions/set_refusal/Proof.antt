@@ -3,7 +3,8 @@ use borrow.Author.Needs.{needs}
 use Rattle.judge.proofs.conditions.set_refusal.Statement.{statement}
 use Rattle.judge.proofs.conditions.set_refusal.Tie as tie
 use mathlib.Core.Path.{sym, _∙_}
-use Rattle.judge.proofs.Refusals.{set-12, set-17, set-0, ungot-is}
+use Rattle.judge.proofs.Refusals.{set-12, set-17, set-0}
+use Rattle.judge.proofs.Scanned.{ungot-is}
 
 returns : tie.Need-returns
 returns c = set-12 _ _ _ _ (c .if1 .taken)

@@ -2,14 +2,11 @@
 use borrow.Author.Needs.{needs}
 use Rattle.judge.proofs.conditions.step_refusal.Statement.{statement}
 use Rattle.judge.proofs.conditions.step_refusal.Tie as tie
-use mathlib.Core.Path.{sym, ap, _∙_}
+use mathlib.Core.Path.{sym, _∙_}
 use native.Mathlib.Omega.{arith}
-use lib.ListN.{length}
 use borrow.Author.Tests.{not-true, not-false}
-use Rattle.table.specs.Checked.{passed-sound, few-calls}
-use Rattle.table.specs.Layout.{long-input-owners, long-kinds}
-use Rattle.judge.proofs.Refusals.{step-12, step-13, step-14, step-0, early-is, either-is}
-use Rattle.judge.proofs.Refusals.{inputs-room, unit-small}
+use Rattle.judge.proofs.Refusals.{step-12, step-13, step-14, step-0}
+use Rattle.judge.proofs.Scanned.{early-is, either-is, inputs-room, unit-small}
 
 returns : tie.Need-returns
 returns c = step-12 _ _ _ _ (c .if1 .taken)

@@ -1,6 +1,6 @@
 -- no input passed so far stands in the way
-use Rattle.judge.proofs.conditions.some_amiss.Statement.{statement}
-use Rattle.judge.proofs.conditions.some_amiss.Tie as tie
+use Rattle.judge.proofs.scans.some_amiss.Statement.{statement}
+use Rattle.judge.proofs.scans.some_amiss.Tie as tie
 use borrow.Author.Needs.{needs}
 use Prim.Native.Nat.{ℕ, _≤_, _<_, _-_}
 use mathlib.Core.Bool.{not}

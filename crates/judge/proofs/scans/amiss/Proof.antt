@@ -1,7 +1,7 @@
 -- one law for each answer: another unit, another kind, the mark
 use borrow.Author.Needs.{needs}
-use Rattle.judge.proofs.conditions.amiss.Statement.{statement}
-use Rattle.judge.proofs.conditions.amiss.Tie as tie
+use Rattle.judge.proofs.scans.amiss.Statement.{statement}
+use Rattle.judge.proofs.scans.amiss.Tie as tie
 use Rattle.judge.proofs.Scanning.{amiss-other, amiss-kind, amiss-mark}
 
 shared-slice-read-if1 : tie.Need-shared-slice-read-if1

@@ -1,7 +1,7 @@
 -- one law for each answer: another output, the mark of the input
 use borrow.Author.Needs.{needs}
-use Rattle.judge.proofs.conditions.lacking.Statement.{statement}
-use Rattle.judge.proofs.conditions.lacking.Tie as tie
+use Rattle.judge.proofs.scans.lacking.Statement.{statement}
+use Rattle.judge.proofs.scans.lacking.Tie as tie
 use Rattle.judge.proofs.Scanning.{lacking-other, lacking-mark}
 
 mul-if1 : tie.Need-mul-if1

@@ -1,6 +1,6 @@
 -- no pair passed so far feeds the output from an input that is not set
-use Rattle.judge.proofs.conditions.some_lacking.Statement.{statement}
-use Rattle.judge.proofs.conditions.some_lacking.Tie as tie
+use Rattle.judge.proofs.scans.some_lacking.Statement.{statement}
+use Rattle.judge.proofs.scans.some_lacking.Tie as tie
 use borrow.Author.Needs.{needs}
 use Prim.Native.Nat.{ℕ, _≤_, _<_, _-_}
 use mathlib.Core.Bool.{not}

@@ -1,7 +1,7 @@
 -- a number below 224 is looked up, any other is not marked
 use borrow.Author.Needs.{needs}
-use Rattle.judge.proofs.conditions.marked.Statement.{statement}
-use Rattle.judge.proofs.conditions.marked.Tie as tie
+use Rattle.judge.proofs.scans.marked.Statement.{statement}
+use Rattle.judge.proofs.scans.marked.Tie as tie
 use Rattle.judge.proofs.Scanning.{mark-below, mark-above}
 
 element-copy-out-result : tie.Need-element-copy-out-result
