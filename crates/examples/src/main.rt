@@ -1,5 +1,7 @@
 // Runs the examples of document 01 and of its readings that are not proved, and prints what each gives.
 use judge::verdict;
+ghost use mathlib.Core.Path.{_≡_};
+ghost use lib.ListN.{length};
 use table::Answer;
 use table::check::check;
 
@@ -35,6 +37,24 @@ fn judged() {
     gives(b"A: 0 2 5 1 3 4 0", verdict(&a, &[0u8, 2, 5, 1, 3, 4, 0]));
 }
 
+// The greatest table: all ports of unit 0, the first 96 feeds from input 0, the rest from input 1.
+fn greatest() -> [u8; 644]
+    ensures { λ r. ⌜ length r ≡ 644 ⌝ }
+{
+    let mut table = [0u8; 644];
+    table[0] = 32;
+    table[1] = 96;
+    table[2] = 96;
+    table[3] = 128;
+    let mut k = 0;
+    while k < 128 {
+        table[388 + 2 * k] = (k / 96) as u8;
+        table[389 + 2 * k] = (k % 96) as u8;
+        k += 1;
+    }
+    table
+}
+
 // Tables checked.
 fn checked() {
     let most = [32u8, 0, 0, 0];
@@ -44,6 +64,9 @@ fn checked() {
     gives(b"U of 33, a byte too long", check(&more));
     gives(b"U of 33, under 4 bytes", check(&more[..3]));
     gives(b"no bytes", check(&more[..0]));
+    let all = greatest();
+    gives(b"the greatest length, 644", check(&all));
+    gives(b"the same, a byte cut", check(&all[..643]));
     gives(b"an input and no output", check(&[1u8, 0, 1, 0, 0, 0, 0]));
     gives(b"a feed and no input", check(&[1u8, 0, 0, 1, 0, 0]));
 }

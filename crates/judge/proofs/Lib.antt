@@ -1,3 +1,6 @@
 pub mod Scanning
 pub mod Refusals
+pub mod Scanned
 pub mod Turns
+pub mod Recorded
+pub mod Walked

@@ -2,9 +2,11 @@
 use mathlib.Core.Path.{_≡_, refl, sym, ap, _∙_}
 use mathlib.Core.Bool.{Bool, true, false, cond}
 use mathlib.Core.List.{List}
-use Prim.Native.Nat.{ℕ, suc, _+_, _≤_, _<_}
+use Prim.Native.Nat.{ℕ, suc, _+_, _^_, _≤_, _<_}
 use native.Mathlib.Numerals.{add-one}
 use native.Mathlib.Omega.{arith}
+use mir.Syntax.{w64}
+use mir.Val.{Fits}
 use lib.ListN.{length, getD, set, drop, replicate, drop-of-length-le}
 use lib.Seq.{drop-cons}
 use lib.Dec.{eqb}
@@ -23,6 +25,10 @@ use Rattle.judge.specs.declared.Run.{Run}
 use Rattle.judge.specs.declared.Taken.{Taken}
 use Rattle.judge.specs.Marks.{marks, marks-none, marks-set}
 use Rattle.judge.specs.Taken.{settled, taken}
+
+-- a byte fits a word
+pub byte-fits : (x : ℕ) → x < 2 ^ 8 → Fits w64 x
+byte-fits x h = record { fits = omega arith }
 
 -- the check's number is the table's refusal
 pub checked-number : (t : List ℕ) (a : Answer) → a ≡ checked t → a .number ≡ refusal t

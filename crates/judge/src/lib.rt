@@ -13,6 +13,8 @@ use table::parts::output_count;
 use table::parts::unit_count;
 
 mod conditions;
+pub mod records;
+mod scans;
 
 // Which call numbers below 224 are done.
 pub struct Run {

@@ -19,7 +19,7 @@ module _ (s : Shape) where
   unfoldable pub atEnd : ℕ → Answer
   atEnd k = answer (cond (eqb k (total s)) 0 18) k
 
-  -- the calls from place k on, with k of them taken: the first refusal with its place, or the end
+  -- the calls from place k on, k calls taken before: the first refusal with its place, or the end
   unfoldable pub verdictFrom : (ℕ → Bool) → List ℕ → ℕ → Answer
   verdictFrom done [] k = atEnd k
   verdictFrom done (c ∷ l) k =

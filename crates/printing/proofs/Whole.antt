@@ -7,15 +7,16 @@ use native.Mathlib.Omega.{arith}
 use lib.ListN.{length, take, drop, length-append, length-take}
 use lib.Seq.{take-at}
 use lib.Dec.{leb}
-use borrow.Author.Tests.{lt-ltb, le-ltb, leb-true, leb-false}
+use borrow.Author.Tests.{lt-ltb, le-ltb, leb-true, leb-false, eq-eqb, ne-eqb}
 use Rattle.search.specs.Front.{fronted}
 use Rattle.grammar.specs.Words.{tab, lf, unit, out, inp}
+use Rattle.table.specs.Packed.{part}
 use Rattle.table.specs.declared.Answer.{Answer}
 use Rattle.declarations.specs.Lines.{beginsFrom, Noted}
 use Rattle.pen.specs.Decimal.{decimal}
 use Rattle.pen.specs.Chain.{Wrote, wrote-then, wrote-long, wrote-front}
-use Rattle.printing.specs.Printed.{printed, refused}
-use Rattle.printing.specs.Entries.{entries, callsText, refusalText}
+use Rattle.printing.specs.Printed.{printed, order, cycle, refused}
+use Rattle.printing.specs.Entries.{entries, callsText, refusalText, outcomeText}
 use Rattle.printing.specs.Listed.{answered, listedIn, Listed}
 use Rattle.printing.proofs.Fielded.{ended-long}
 
@@ -120,3 +121,22 @@ pub noted-fits : {w t places after : List ℕ} {n : ℕ} → Noted w t places af
 noted-fits {w} {t} {places} {after} {n} g =
     let x = take (length places) (beginsFrom w t 0) in
     omega (arith, g .count, ap length (g .front), length-append x (drop (length x) places))
+
+-- ---- what an ordering answered
+
+module _ (t : List ℕ) (n k : ℕ) (calls cs : List ℕ) where
+  pub outcome-order : cs ≡ part calls 0 k → n ≡ 0 → callsText t order cs ≡ outcomeText t n k calls
+  unfolding outcomeText
+  outcome-order e z = rw (e, eq-eqb n 0 z)
+
+  pub outcome-cycle : cs ≡ part calls 0 k → (n ≡ 0 → ⊥) → n ≡ 9 → callsText t cycle cs ≡ outcomeText t n k calls
+  unfolding outcomeText
+  outcome-cycle e z o = rw (e, ne-eqb n 0 z, eq-eqb n 9 o)
+
+pub outcome-refused :
+    (t : List ℕ) (n k : ℕ) (calls : List ℕ) → (n ≡ 0 → ⊥) → (n ≡ 9 → ⊥) → refusalText n k ≡ outcomeText t n k calls
+unfolding outcomeText
+outcome-refused t n k calls z o = rw (ne-eqb n 0 z, ne-eqb n 9 o)
+
+pub same-listed : {s r o after : List ℕ} {a : Answer} → s ≡ r → Listed s o after a → Listed r o after a
+same-listed e l = rw (← e) l

@@ -1,7 +1,10 @@
 -- The lines of a list of calls, with names from the lines that declare them.
 use Prim.Native.Nat.{ℕ, suc}
+use mathlib.Core.Bool.{cond}
 use mathlib.Core.List.{List, [], _∷_, _++_}
 use lib.ListN.{length, getD}
+use lib.Dec.{eqb}
+use Rattle.table.specs.Packed.{part}
 use Rattle.grammar.specs.Words.{unit, out, inp}
 use Rattle.grammar.specs.Rows.{word}
 use Rattle.declarations.specs.Lines.{declared}
@@ -55,3 +58,10 @@ callsText t w cs = printed (w ∷ decimal (length cs) ∷ []) ++ entries t 0 cs
 -- "`refused`, number, line"
 unfoldable pub refusalText : ℕ → ℕ → List ℕ
 refusalText n k = printed (refused ∷ decimal n ∷ decimal k ∷ [])
+
+-- what an ordering's answer prints, its calls at the front of the order buffer: 0 an order, 9 a cycle, else a refusal
+unfoldable pub outcomeText : List ℕ → ℕ → ℕ → List ℕ → List ℕ
+outcomeText t n k calls =
+    cond (eqb n 0) (callsText t order (part calls 0 k))
+    (cond (eqb n 9) (callsText t cycle (part calls 0 k))
+    (refusalText n k))

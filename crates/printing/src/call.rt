@@ -2,7 +2,7 @@
 use crate::line::entry_length;
 use crate::line::put_entry;
 use calls::Call;
-use calls::call_in;
+use calls::number::call_in;
 use fields::fields_at;
 ghost use mathlib.Core.Path.{_≡_};
 ghost use Prim.Native.Nat.{_+_, _<_, _≤_};

@@ -10,8 +10,9 @@ use crate::line::put_field;
 use declarations::note_lines;
 use pen::digit_count;
 use table::Answer;
+use table::parts::stretch;
 ghost use mathlib.Core.Path.{_≡_};
-ghost use Rattle.printing.specs.Entries.{callsText, refusalText};
+ghost use Rattle.printing.specs.Entries.{callsText, outcomeText, refusalText};
 ghost use Rattle.printing.specs.Indexed.{Indexed};
 ghost use Rattle.printing.specs.Listed.{Listed};
 
@@ -89,4 +90,19 @@ pub fn put_refusal(number: u8, line: usize, out: &mut [u8]) -> Answer
         number: 0,
         place: end,
     }
+}
+
+// Writes what an ordering answered: an order, a cycle, or a refusal; the calls stand at the front of its buffer.
+pub fn put_outcome(text: &[u8], answer: Answer, buffer: &[u8], out: &mut [u8]) -> Answer
+    ensures { λ r. ⌜ Listed (outcomeText (now (text .entry)) (answer .number) (answer .place) (now (buffer .entry))) (now (out .entry)) (now (out .exit)) r ⌝ }
+{
+    let place = answer.place;
+    let calls = stretch(buffer, 0, place);
+    if answer.number == 0 {
+        return put_calls(text, b"order", calls, out);
+    }
+    if answer.number == 9 {
+        return put_calls(text, b"cycle", calls, out);
+    }
+    put_refusal(answer.number, place, out)
 }

@@ -24,7 +24,7 @@ use Rattle.twin.specs.Solved.{solves, single, later}
 abbrev pub values : {Val : Type 0} → World Val → ℕ → Val
 values w a = w a .value
 
--- the table takes the order: the verdict's number is 0, so the table is sound too
+-- the order is passed on the table: the verdict's number is 0, so the table is sound too
 abbrev pub Passed : List ℕ → List ℕ → Type 0
 Passed t order = verdictOf t order .number ≡ 0
 

@@ -1,38 +1,27 @@
+-- one law for each answer
 use borrow.Author.Needs.{needs}
 use Rattle.judge.proofs.ended.Statement.{statement}
 use Rattle.judge.proofs.ended.Tie as tie
-use Rattle.judge.proofs.ended.Reads as reads
-use Rattle.judge.proofs.ended.Lts as lts
-use Rattle.table.proofs.parts.input_count.Reads as input-count-reads
-use Rattle.table.proofs.parts.output_count.Reads as output-count-reads
-use Rattle.table.proofs.parts.unit_count.Reads as unit-count-reads
 use Rattle.judge.proofs.Turns.{end-short, end-passed}
 
--- src/lib.rt:89:17
 unit-count-requires : tie.Need-unit-count-requires
 unit-count-requires c κs = search needs
 
--- src/lib.rt:89:37
 output-count-requires : tie.Need-output-count-requires
 output-count-requires c κs = search needs
 
--- src/lib.rt:89:17
 add-if1 : tie.Need-add-if1
 add-if1 c = search needs
 
--- src/lib.rt:89:59
 input-count-requires : tie.Need-input-count-requires
 input-count-requires c κs = search needs
 
--- src/lib.rt:89:17
 add-if1-2 : tie.Need-add-if1-2
 add-if1-2 c = search needs
 
--- src/lib.rt:90:9
 returns : tie.Need-returns
 returns c = end-short _ _ _ _ _ (c .before .before .before .unit-count .ensures .0) (c .before .before .output-count .ensures .0) (c .before .input-count .ensures .0) (c .if1 .taken)
 
--- src/lib.rt:86:1
 returns-2 : tie.Need-returns-2
 returns-2 c = end-passed _ _ _ _ _ (c .before .before .before .unit-count .ensures .0) (c .before .before .output-count .ensures .0) (c .before .input-count .ensures .0) (c .if1 .left)
 

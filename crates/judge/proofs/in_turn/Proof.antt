@@ -1,19 +1,15 @@
+-- the verdict on the whole order is that on what is left of it, from the marks so far
 use Rattle.judge.proofs.in_turn.Statement.{statement}
 use Rattle.judge.proofs.in_turn.Tie as tie
-use Rattle.judge.proofs.in_turn.Reads as reads
-use Rattle.judge.proofs.in_turn.Lts as lts
-use Rattle.judge.proofs.conditions.refusal_at.Reads as refusal-at-reads
-use Rattle.judge.proofs.ended.Reads as ended-reads
 use borrow.Author.Needs.{needs}
 use Prim.Native.Nat.{_≤_, _-_}
 use mathlib.Core.Path.{_≡_, refl, sym, _∙_}
-use native.Mathlib.Omega.{arith}
 use lib.ListN.{length, drop, length-set}
 use Rattle.search.specs.Sets.{none}
 use Rattle.table.specs.Packed.{shapeOf}
 use Rattle.judging.specs.Verdict.{verdictFrom}
 use Rattle.judge.specs.Marks.{marks}
-use Rattle.judge.proofs.Turns.{taken-small, turn-starts, turn-on, turn-off, turn-ends}
+use Rattle.judge.proofs.Turns.{byte-fits, taken-small, turn-starts, turn-on, turn-off, turn-ends}
 
 abbrev Inv-loop : tie.InvT-loop
 Inv-loop table order done₀ place₀ done place = (place ≤ length order) × (length done ≡ 224) × (verdictFrom (shapeOf table) none order 0 ≡ verdictFrom (shapeOf table) (marks done) (drop place order) place)
@@ -21,47 +17,36 @@ Inv-loop table order done₀ place₀ done place = (place ≤ length order) × (
 abbrev μ-loop : tie.MeasureT-loop
 μ-loop table order done₀ place₀ done place = length order - place
 
--- src/lib.rt:70:5
 loop-holds : tie.Need-loop-holds Inv-loop μ-loop
 loop-holds c = (search needs, refl, turn-starts _ _)
 
--- src/lib.rt:71:20
 shared-slice-read-call : tie.Need-shared-slice-read-call Inv-loop μ-loop
 shared-slice-read-call c = search needs
 
--- src/lib.rt:71:20
 cast-call : tie.Need-cast-call Inv-loop μ-loop
-cast-call c = omega (arith, c .shared-slice-known3 .given (c .before .before .loop .place))
+cast-call c = byte-fits _ ((c .shared-slice-known3 .given _) .fits)
 
--- src/lib.rt:72:13
 refusal-at-requires : tie.Need-refusal-at-requires Inv-loop μ-loop
 refusal-at-requires c κs = c .before .before .before .before .before .before .pre
 
--- src/lib.rt:74:13
 returns : tie.Need-returns Inv-loop μ-loop
 returns c = sym (c .before .before .before .before .before .loop .inv .2 ∙ turn-off _ _ _ _ _ (c .before .before .before .before .loop-test .taken) (c .before .refusal-at .ensures) (c .if1 .taken))
 
--- src/lib.rt:79:9
 array-write-done : tie.Need-array-write-done Inv-loop μ-loop
 array-write-done c = taken-small _ (c .before .before .before .before .before .before .before .before .pre) _ _ _ (c .before .refusal-at .ensures) (c .if1 .left)
 
--- src/lib.rt:80:9
 add-place : tie.Need-add-place Inv-loop μ-loop
 add-place c = search needs
 
--- src/lib.rt:70:5
 loop-less : tie.Need-loop-less Inv-loop μ-loop
 loop-less c = search needs
 
--- src/lib.rt:70:5
 loop-again : tie.Need-loop-again Inv-loop μ-loop
 loop-again c = (search needs, simp length-set (c .before .before .before .before .before .loop .inv .1), c .before .before .before .before .before .loop .inv .2 ∙ turn-on _ _ _ _ _ (c .before .before .before .before .loop-test .taken) (c .before .refusal-at .ensures) (c .if1 .left) (taken-small _ (c .before .before .before .before .before .before .before .before .pre) _ _ _ (c .before .refusal-at .ensures) (c .if1 .left)) (c .before .before .before .before .before .loop .inv .1))
 
--- src/lib.rt:82:5
 ended-requires : tie.Need-ended-requires Inv-loop μ-loop
 ended-requires c κs = search needs
 
--- src/lib.rt:64:1
 returns-2 : tie.Need-returns-2 Inv-loop μ-loop
 returns-2 c = c .ended .ensures ∙ sym (c .before .before .loop .inv .2 ∙ turn-ends _ _ _ _ (c .before .loop-test .left))
 

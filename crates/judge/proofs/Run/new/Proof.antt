@@ -1,12 +1,10 @@
+-- nothing is marked
 use Rattle.judge.proofs.Run.new.Statement.{statement}
 use Rattle.judge.proofs.Run.new.Tie as tie
-use Rattle.judge.proofs.Run.new.Reads as reads
-use Rattle.judge.proofs.Run.new.Lts as lts
 use borrow.Author.Needs.{needs}
 use mathlib.Core.Path.{refl}
 use Rattle.judge.specs.Taken.{fresh}
 
--- src/lib.rt:28:5
 returns : tie.Need-returns
 unfolding fresh
 returns c = refl

@@ -1,73 +1,51 @@
+-- one law for each number; the scan is the fault of a feeding input
 use borrow.Author.Needs.{needs}
 use Rattle.judge.proofs.conditions.get_refusal.Statement.{statement}
 use Rattle.judge.proofs.conditions.get_refusal.Tie as tie
-use Rattle.judge.proofs.conditions.get_refusal.Reads as reads
-use Rattle.judge.proofs.conditions.get_refusal.Lts as lts
-use Rattle.judge.proofs.conditions.marked.Reads as marked-reads
-use Rattle.judge.proofs.conditions.some_lacking.Reads as some-lacking-reads
-use Rattle.table.proofs.parts.byte.Reads as byte-reads
-use Rattle.table.proofs.parts.feed_count.Reads as feed-count-reads
-use Rattle.table.proofs.parts.feed_pairs.Reads as feed-pairs-reads
-use Rattle.table.proofs.parts.output_count.Reads as output-count-reads
-use Rattle.table.proofs.parts.output_owners.Reads as output-owners-reads
-use Rattle.table.proofs.parts.unit_count.Reads as unit-count-reads
 use mathlib.Core.Path.{sym, _∙_}
 use native.Mathlib.Omega.{arith}
-use Rattle.judge.proofs.Refusals.{get-12, get-15, get-16, get-0, unstepped-is, unfed-is, feeds-room, output-small}
+use Rattle.judge.proofs.Refusals.{get-12, get-15, get-16, get-0}
+use Rattle.judge.proofs.Scanned.{unstepped-is, unfed-is, feeds-room, output-small}
 
--- src/conditions.rt:147:9
 returns : tie.Need-returns
 returns c = get-12 _ _ _ _ (c .if1 .taken)
 
--- src/conditions.rt:149:27
 output-owners-requires : tie.Need-output-owners-requires
 output-owners-requires c κs = search needs
 
--- src/conditions.rt:149:22
 byte-requires : tie.Need-byte-requires
 byte-requires c κs = search needs
 
--- src/conditions.rt:149:9
 marked-requires : tie.Need-marked-requires
 marked-requires c κs = search needs
 
--- src/conditions.rt:150:9
 returns-2 : tie.Need-returns-2
 returns-2 c = get-15 _ _ _ (c .before .before .before .before .if1 .left) _ (sym (unstepped-is _ _ _ _ _ _ (c .before .before .byte .ensures .0) (c .before .before .before .output-owners .ensures) (c .before .marked .ensures)) ∙ c .if2 .taken)
 
--- src/conditions.rt:152:17
 unit-count-requires : tie.Need-unit-count-requires
 unit-count-requires c κs = search needs
 
--- src/conditions.rt:152:37
 output-count-requires : tie.Need-output-count-requires
 output-count-requires c κs = search needs
 
--- src/conditions.rt:152:17
 add-first : tie.Need-add-first
 add-first c = search needs
 
--- src/conditions.rt:153:21
 feed-pairs-requires : tie.Need-feed-pairs-requires
 feed-pairs-requires c κs = search needs
 
--- src/conditions.rt:153:53
 cast-some-lacking : tie.Need-cast-some-lacking
 cast-some-lacking c = omega (arith, output-small _ (c .before .before .before .before .before .before .before .before .before .pre .0) _ (c .before .before .before .before .before .before .before .before .before .pre .1))
 
--- src/conditions.rt:153:67
 feed-count-requires : tie.Need-feed-count-requires
 feed-count-requires c κs = search needs
 
--- src/conditions.rt:153:8
 some-lacking-requires : tie.Need-some-lacking-requires
 some-lacking-requires c κs = feeds-room _ (c .before .before .before .before .before .before .before .before .before .before .pre .0) _ _ (c .before .before .before .unit-count .ensures .0) (c .before .before .output-count .ensures .0) _ _ (c .before .feed-pairs .ensures) (c .feed-count .ensures .0)
 
--- src/conditions.rt:154:9
 returns-3 : tie.Need-returns-3
 returns-3 c = get-16 _ _ _ (c .before .before .before .before .before .before .before .before .before .before .if1 .left) _ (sym (unstepped-is _ _ _ _ _ _ (c .before .before .before .before .before .before .before .before .byte .ensures .0) (c .before .before .before .before .before .before .before .before .before .output-owners .ensures) (c .before .before .before .before .before .before .before .marked .ensures)) ∙ c .before .before .before .before .before .before .if2 .left) (sym (unfed-is _ _ _ _ (c .before .before .before .before .before .unit-count .ensures .0) (c .before .before .before .before .output-count .ensures .0) _ _ _ (c .before .before .before .feed-pairs .ensures) (c .before .before .feed-count .ensures .0)) ∙ sym (c .before .some-lacking .ensures) ∙ c .if3 .taken)
 
--- src/conditions.rt:138:1
 returns-4 : tie.Need-returns-4
 returns-4 c = get-0 _ _ _ (c .before .before .before .before .before .before .before .before .before .before .if1 .left) _ (sym (unstepped-is _ _ _ _ _ _ (c .before .before .before .before .before .before .before .before .byte .ensures .0) (c .before .before .before .before .before .before .before .before .before .output-owners .ensures) (c .before .before .before .before .before .before .before .marked .ensures)) ∙ c .before .before .before .before .before .before .if2 .left) (sym (unfed-is _ _ _ _ (c .before .before .before .before .before .unit-count .ensures .0) (c .before .before .before .before .output-count .ensures .0) _ _ _ (c .before .before .before .feed-pairs .ensures) (c .before .before .feed-count .ensures .0)) ∙ sym (c .before .some-lacking .ensures) ∙ c .if3 .left)
 

@@ -1,44 +1,32 @@
+-- one law for each number
 use borrow.Author.Needs.{needs}
 use Rattle.judge.proofs.conditions.set_refusal.Statement.{statement}
 use Rattle.judge.proofs.conditions.set_refusal.Tie as tie
-use Rattle.judge.proofs.conditions.set_refusal.Reads as reads
-use Rattle.judge.proofs.conditions.set_refusal.Lts as lts
-use Rattle.judge.proofs.conditions.marked.Reads as marked-reads
-use Rattle.table.proofs.parts.byte.Reads as byte-reads
-use Rattle.table.proofs.parts.input_sources.Reads as input-sources-reads
-use Rattle.table.proofs.parts.unit_count.Reads as unit-count-reads
 use mathlib.Core.Path.{sym, _∙_}
-use Rattle.judge.proofs.Refusals.{set-12, set-17, set-0, ungot-is}
+use Rattle.judge.proofs.Refusals.{set-12, set-17, set-0}
+use Rattle.judge.proofs.Scanned.{ungot-is}
 
--- src/conditions.rt:167:9
 returns : tie.Need-returns
 returns c = set-12 _ _ _ _ (c .if1 .taken)
 
--- src/conditions.rt:169:22
 unit-count-requires : tie.Need-unit-count-requires
 unit-count-requires c κs = search needs
 
--- src/conditions.rt:169:47
 input-sources-requires : tie.Need-input-sources-requires
 input-sources-requires c κs = search needs
 
--- src/conditions.rt:169:42
 byte-requires : tie.Need-byte-requires
 byte-requires c κs = search needs
 
--- src/conditions.rt:169:22
 add-marked : tie.Need-add-marked
 add-marked c = search needs
 
--- src/conditions.rt:169:9
 marked-requires : tie.Need-marked-requires
 marked-requires c κs = search needs
 
--- src/conditions.rt:170:9
 returns-2 : tie.Need-returns-2
 returns-2 c = set-17 _ _ _ (c .before .before .before .before .before .if1 .left) _ (sym (ungot-is _ _ _ _ _ _ (c .before .before .byte .ensures .0) (c .before .before .before .input-sources .ensures) _ (c .before .before .before .before .unit-count .ensures .0) (c .before .marked .ensures)) ∙ c .if2 .taken)
 
--- src/conditions.rt:160:1
 returns-3 : tie.Need-returns-3
 returns-3 c = set-0 _ _ _ (c .before .before .before .before .before .if1 .left) _ (sym (ungot-is _ _ _ _ _ _ (c .before .before .byte .ensures .0) (c .before .before .before .input-sources .ensures) _ (c .before .before .before .before .unit-count .ensures .0) (c .before .marked .ensures)) ∙ c .if2 .left)
 

@@ -1,67 +1,46 @@
+-- one law for each number; the scans are the two faults of a step
 use borrow.Author.Needs.{needs}
 use Rattle.judge.proofs.conditions.step_refusal.Statement.{statement}
 use Rattle.judge.proofs.conditions.step_refusal.Tie as tie
-use Rattle.judge.proofs.conditions.step_refusal.Reads as reads
-use Rattle.judge.proofs.conditions.step_refusal.Lts as lts
-use Rattle.judge.proofs.conditions.some_amiss.Reads as some-amiss-reads
-use Rattle.table.proofs.parts.input_kinds.Reads as input-kinds-reads
-use Rattle.table.proofs.parts.input_owners.Reads as input-owners-reads
-use Rattle.table.proofs.parts.output_count.Reads as output-count-reads
-use Rattle.table.proofs.parts.unit_count.Reads as unit-count-reads
-use mathlib.Core.Path.{sym, ap, _∙_}
+use mathlib.Core.Path.{sym, _∙_}
 use native.Mathlib.Omega.{arith}
-use lib.ListN.{length}
 use borrow.Author.Tests.{not-true, not-false}
-use Rattle.table.specs.Checked.{passed-sound, few-calls}
-use Rattle.table.specs.Layout.{long-input-owners, long-kinds}
-use Rattle.judge.proofs.Refusals.{step-12, step-13, step-14, step-0, early-is, either-is}
-use Rattle.judge.proofs.Refusals.{inputs-room, unit-small}
+use Rattle.judge.proofs.Refusals.{step-12, step-13, step-14, step-0}
+use Rattle.judge.proofs.Scanned.{early-is, either-is, inputs-room, unit-small}
 
--- src/conditions.rt:122:9
 returns : tie.Need-returns
 returns c = step-12 _ _ _ _ (c .if1 .taken)
 
--- src/conditions.rt:124:9
 input-owners-requires : tie.Need-input-owners-requires
 input-owners-requires c κs = search needs
 
--- src/conditions.rt:125:9
 input-kinds-requires : tie.Need-input-kinds-requires
 input-kinds-requires c κs = search needs
 
--- src/conditions.rt:126:17
 unit-count-requires : tie.Need-unit-count-requires
 unit-count-requires c κs = search needs
 
--- src/conditions.rt:126:37
 output-count-requires : tie.Need-output-count-requires
 output-count-requires c κs = search needs
 
--- src/conditions.rt:126:17
 add-first : tie.Need-add-first
 add-first c = search needs
 
--- src/conditions.rt:127:16
 cast-this : tie.Need-cast-this
 cast-this c = omega (arith, unit-small _ (c .before .before .before .before .before .before .pre .0) _ (c .before .before .before .before .before .before .pre .1))
 
--- src/conditions.rt:128:9
 some-amiss-requires : tie.Need-some-amiss-requires
 some-amiss-requires c κs = inputs-room _ (c .before .before .before .before .before .before .pre .0) _ _ (c .before .unit-count .ensures .0) (c .output-count .ensures .0) _ _ (c .before .before .before .input-owners .ensures) (c .before .before .input-kinds .ensures)
 
--- src/conditions.rt:129:9
 returns-2 : tie.Need-returns-2
 returns-2 c = step-0 _ _ _ (c .before .before .before .before .before .before .if1 .left) _ (sym (either-is _ _ _ _ (c .before .before .before .unit-count .ensures .0) (c .before .before .output-count .ensures .0) (c .before .before .before .before .before .before .before .before .pre .0) _ _ (c .before .before .before .before .before .input-owners .ensures) (c .before .before .before .before .input-kinds .ensures) _) ∙ sym (c .before .some-amiss .ensures) ∙ not-true _ (c .if2 .taken))
 
--- src/conditions.rt:131:8
 some-amiss-requires-2 : tie.Need-some-amiss-requires-2
 some-amiss-requires-2 c κs = inputs-room _ (c .before .before .before .before .before .before .before .before .pre .0) _ _ (c .before .before .before .unit-count .ensures .0) (c .before .before .output-count .ensures .0) _ _ (c .before .before .before .before .before .input-owners .ensures) (c .before .before .before .before .input-kinds .ensures)
 
--- src/conditions.rt:132:9
 returns-3 : tie.Need-returns-3
 returns-3 c = step-13 _ _ _ (c .before .before .before .before .before .before .before .before .if1 .left) _ (sym (early-is _ _ _ _ (c .before .before .before .before .before .unit-count .ensures .0) (c .before .before .before .before .output-count .ensures .0) (c .before .before .before .before .before .before .before .before .before .before .pre .0) _ _ (c .before .before .before .before .before .before .before .input-owners .ensures) (c .before .before .before .before .before .before .input-kinds .ensures) _) ∙ sym (c .before .some-amiss2 .ensures) ∙ c .if3 .taken)
 
--- src/conditions.rt:113:1
 returns-4 : tie.Need-returns-4
 returns-4 c = step-14 _ _ _ (c .before .before .before .before .before .before .before .before .if1 .left) _ (sym (either-is _ _ _ _ (c .before .before .before .before .before .unit-count .ensures .0) (c .before .before .before .before .output-count .ensures .0) (c .before .before .before .before .before .before .before .before .before .before .pre .0) _ _ (c .before .before .before .before .before .before .before .input-owners .ensures) (c .before .before .before .before .before .before .input-kinds .ensures) _) ∙ sym (c .before .before .before .some-amiss .ensures) ∙ not-false _ (c .before .before .if2 .left)) (sym (early-is _ _ _ _ (c .before .before .before .before .before .unit-count .ensures .0) (c .before .before .before .before .output-count .ensures .0) (c .before .before .before .before .before .before .before .before .before .before .pre .0) _ _ (c .before .before .before .before .before .before .before .input-owners .ensures) (c .before .before .before .before .before .before .input-kinds .ensures) _) ∙ sym (c .before .some-amiss2 .ensures) ∙ c .if3 .left)
 

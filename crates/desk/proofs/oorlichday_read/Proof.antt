@@ -1,0 +1,19 @@
+-- The reader's answer, field by field.
+use borrow.Author.Needs.{needs}
+use Rattle.desk.proofs.oorlichday_read.Statement.{statement}
+use Rattle.desk.proofs.oorlichday_read.Tie as tie
+use mathlib.Core.Path.{ap}
+use Rattle.text.specs.declared.Answer.{Answer}
+use Rattle.desk.specs.declared.Reading.{Reading}
+
+read-requires : tie.Need-read-requires
+read-requires c κs = search needs
+
+same-length : tie.Need-same-length
+same-length c = search needs
+
+returns : tie.Need-returns
+returns c = record { answer = ap (λ (a : Answer). (let r : Reading = record { number = a .number; place = a .place } in r)) (c .before .before .read .ensures .answer); bytes = c .before .before .read .ensures .bytes }
+
+pub oorlichday-read-spec : {M : Type 1} → statement M
+oorlichday-read-spec = tie.close (tie.spec read-requires same-length returns)

@@ -1,0 +1,11 @@
+-- A reading as it is answered to a desktop program.
+use mathlib.Core.Path.{_≡_}
+use mathlib.Core.List.{List}
+use Prim.Native.Nat.{ℕ}
+use Rattle.search.specs.Front.{fronted}
+use Rattle.grammar.specs.Reading.{Reading}
+use Rattle.desk.specs.declared.Reading.{Reading as Told}
+
+pub record Exported (g : Reading) (before after : List ℕ) (r : Told) : Type 0 where
+  pub answer : r ≡ record { number = g .number; place = g .place }
+  pub bytes : after ≡ fronted (g .bytes) before

@@ -1,0 +1,3 @@
+-- What the desktop calls answer.
+pub mod Exported
+pub mod Determined

@@ -1,0 +1,46 @@
+-- one law for each answer: another output, the mark of the input
+use borrow.Author.Needs.{needs}
+use Rattle.judge.proofs.scans.lacking.Statement.{statement}
+use Rattle.judge.proofs.scans.lacking.Tie as tie
+use Rattle.judge.proofs.Scanning.{lacking-other, lacking-mark}
+
+mul-if1 : tie.Need-mul-if1
+mul-if1 c = search needs
+
+add-if1 : tie.Need-add-if1
+add-if1 c = search needs
+
+shared-slice-read-if1 : tie.Need-shared-slice-read-if1
+shared-slice-read-if1 c = search needs
+
+returns : tie.Need-returns
+returns c = lacking-other _ _ _ _ _ (c .if1 .taken)
+
+mul-byte : tie.Need-mul-byte
+mul-byte c = search needs
+
+byte-requires : tie.Need-byte-requires
+byte-requires c κs = search needs
+
+add-marked : tie.Need-add-marked
+add-marked c = search needs
+
+marked-requires : tie.Need-marked-requires
+marked-requires c κs = search needs
+
+returns-2 : tie.Need-returns-2
+returns-2 c = lacking-mark _ _ _ _ _ (c .before .before .if1 .left) _ (c .before .byte .ensures .0) _ (c .marked .ensures)
+
+pub lacking-spec : {M : Type 1} → statement M
+lacking-spec =
+    tie.close
+    (tie.spec
+    mul-if1
+    add-if1
+    shared-slice-read-if1
+    returns
+    mul-byte
+    byte-requires
+    add-marked
+    marked-requires
+    returns-2)

@@ -1,0 +1,2 @@
+-- The text that the lister prints.
+pub mod Lengths

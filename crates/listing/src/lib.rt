@@ -1,0 +1,1 @@
+// The listing's own facts of a text that is read.
