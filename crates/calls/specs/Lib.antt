@@ -1,0 +1,4 @@
+pub mod Number
+pub mod Precedence
+pub mod Numbers
+pub mod Neighbours

@@ -1,0 +1,1 @@
+-- Laws of the layout: where the counts ask the table's length, each part has its count.

@@ -1,0 +1,5 @@
+pub mod Shape
+pub mod Packed
+pub mod Sound
+pub mod Check
+pub mod Layout
