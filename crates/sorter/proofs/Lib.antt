@@ -1,1 +1,3 @@
 pub mod Hits
+pub mod Parts
+pub mod Into

@@ -1,0 +1,101 @@
+-- Laws of the direct predecessors counted rule by rule: parts, bounds, and none exactly where none precedes.
+use mathlib.Core.Path.{_≡_, refl, sym, ap, _∙_}
+use mathlib.Core.Logic.{inl, inr}
+use mathlib.Core.Bool.{Bool, true, false, not, _&&_, and-comm}
+use Prim.Native.Nat.{ℕ, _+_, _≤_, _<_}
+use native.Mathlib.Omega.{arith}
+use lib.Dec.{T, eqb, eqb→eq}
+use Rattle.search.specs.Truth.{T-and, and-T, eq-true}
+use Rattle.search.specs.Sets.{add}
+use Rattle.search.specs.Count.{bit}
+use Rattle.table.specs.Shape.{Shape, total, Wired}
+use Rattle.calls.specs.Number.{getNo, setNo}
+use Rattle.calls.specs.Precedence.{Precedes, step-get, get-set, set-get, set-step, step-set, precedes}
+use Rattle.calls.specs.Neighbours.{precedes-iff, calls-only}
+use Rattle.sorter.specs.Less.{hits}
+use Rattle.sorter.specs.Waiting.{only, stepsToGets, getsToSets, setsToGets, setsToSteps, stepsToSets, into}
+use Rattle.sorter.proofs.Parts.{bit-and, hits-part, no-hits, hits-no, hits-le, row-once, part-of}
+
+module _ (s : Shape) where
+  -- placing d takes from each call's count what d gives it
+  pub into-part : (done : ℕ → Bool) (d c : ℕ) → T (not (done d))
+      → into s (λ a. not (add d done a)) c + into s (only d) c ≡ into s (λ a. not (done a)) c
+  unfolding into
+  into-part done d c t =
+      let p = part-of done d t in
+      omega
+      (arith,
+      hits-part (getNo s) (s .outputs) c (λ y. not (done (s .outputOwner y)))
+      (λ y. not (add d done (s .outputOwner y))) (λ y. only d (s .outputOwner y)) (λ y. p (s .outputOwner y)),
+      hits-part (setNo s) (s .inputs) c (λ x. not (done (getNo s (s .source x))))
+      (λ x. not (add d done (getNo s (s .source x)))) (λ x. only d (getNo s (s .source x)))
+      (λ x. p (getNo s (s .source x))),
+      hits-part (λ k. getNo s (s .feedOutput k)) (s .feeds) c (λ k. not (done (setNo s (s .feedInput k))))
+      (λ k. not (add d done (setNo s (s .feedInput k)))) (λ k. only d (setNo s (s .feedInput k)))
+      (λ k. p (setNo s (s .feedInput k))),
+      hits-part (s .inputOwner) (s .inputs) c (λ x. eqb (s .kind x) 1 && not (done (setNo s x)))
+      (λ x. eqb (s .kind x) 1 && not (add d done (setNo s x))) (λ x. eqb (s .kind x) 1 && only d (setNo s x))
+      (λ x. and-bit (eqb (s .kind x) 1) (not (done (setNo s x))) (not (add d done (setNo s x)))
+      (only d (setNo s x)) (p (setNo s x))),
+      hits-part (setNo s) (s .inputs) c (λ x. not (done (s .inputOwner x)) && eqb (s .kind x) 0)
+      (λ x. not (add d done (s .inputOwner x)) && eqb (s .kind x) 0)
+      (λ x. only d (s .inputOwner x) && eqb (s .kind x) 0)
+      (λ x. bit-and (eqb (s .kind x) 0) (not (done (s .inputOwner x))) (not (add d done (s .inputOwner x)))
+      (only d (s .inputOwner x)) (p (s .inputOwner x))))
+    where
+      and-bit : (e p q r : Bool) → bit p ≡ bit q + bit r → bit (e && p) ≡ bit (e && q) + bit (e && r)
+      and-bit e p q r h = rw (and-comm e p, and-comm e q, and-comm e r) (bit-and e p q r h)
+
+  module _ (passes : ℕ → Bool) where
+    -- a row gives each call one at most, the feeds and the reactive inputs as many as there are
+    pub into-le : (c : ℕ) → into s passes c ≤ 3 + s .feeds + s .inputs
+    unfolding into
+    into-le c =
+        omega
+        (arith,
+        row-once (λ y. passes (s .outputOwner y)) (s .units) (s .outputs) c,
+        row-once (λ x. passes (getNo s (s .source x))) (s .units + s .outputs) (s .inputs) c,
+        hits-le (λ k. getNo s (s .feedOutput k)) (s .feeds) c (λ k. passes (setNo s (s .feedInput k))),
+        hits-le (s .inputOwner) (s .inputs) c (λ x. eqb (s .kind x) 1 && passes (setNo s x)),
+        row-once (λ x. passes (s .inputOwner x) && eqb (s .kind x) 0) (s .units + s .outputs) (s .inputs) c)
+
+    -- a count of 0 leaves no direct predecessor that passes
+    pub into-none : (c : ℕ) → into s passes c ≡ 0 → (a : ℕ) → Precedes s a c → T (passes a) → ⊥
+    unfolding into
+    into-none c e a (step-get y h p q) t =
+        hits-no (getNo s) (s .outputs) c (λ y. passes (s .outputOwner y)) (omega arith) y h (rw (← p) t) (sym q)
+    into-none c e a (get-set x h p q) t =
+        hits-no (setNo s) (s .inputs) c (λ x. passes (getNo s (s .source x))) (omega arith) x h (rw (← p) t) (sym q)
+    into-none c e a (set-get k h p q) t =
+        hits-no (λ k. getNo s (s .feedOutput k)) (s .feeds) c (λ k. passes (setNo s (s .feedInput k)))
+        (omega arith) k h (rw (← p) t) (sym q)
+    into-none c e a (set-step x h k p q) t =
+        hits-no (s .inputOwner) (s .inputs) c (λ x. eqb (s .kind x) 1 && passes (setNo s x)) (omega arith) x h
+        (and-T (eqb (s .kind x) 1) (passes (setNo s x)) (eq-true (s .kind x) 1 k) (rw (← p) t)) (sym q)
+    into-none c e a (step-set x h k p q) t =
+        hits-no (setNo s) (s .inputs) c (λ x. passes (s .inputOwner x) && eqb (s .kind x) 0) (omega arith) x h
+        (and-T (passes (s .inputOwner x)) (eqb (s .kind x) 0) (rw (← p) t) (eq-true (s .kind x) 0 k)) (sym q)
+
+    -- and where there is none, the count is 0
+    pub none-into : (c : ℕ) → ((a : ℕ) → Precedes s a c → T (passes a) → ⊥) → into s passes c ≡ 0
+    unfolding into
+    none-into c n =
+        omega
+        (arith,
+        no-hits (getNo s) (s .outputs) c (λ y. passes (s .outputOwner y))
+        (λ y h t q. n (s .outputOwner y) (step-get y h refl (sym q)) t),
+        no-hits (setNo s) (s .inputs) c (λ x. passes (getNo s (s .source x)))
+        (λ x h t q. n (getNo s (s .source x)) (get-set x h refl (sym q)) t),
+        no-hits (λ k. getNo s (s .feedOutput k)) (s .feeds) c (λ k. passes (setNo s (s .feedInput k)))
+        (λ k h t q. n (setNo s (s .feedInput k)) (set-get k h refl (sym q)) t),
+        no-hits (s .inputOwner) (s .inputs) c (λ x. eqb (s .kind x) 1 && passes (setNo s x))
+        (λ x h t q. let (a, b) = T-and (eqb (s .kind x) 1) (passes (setNo s x)) t in
+        n (setNo s x) (set-step x h (eqb→eq (s .kind x) 1 a) refl (sym q)) b),
+        no-hits (setNo s) (s .inputs) c (λ x. passes (s .inputOwner x) && eqb (s .kind x) 0)
+        (λ x h t q. let (a, b) = T-and (passes (s .inputOwner x)) (eqb (s .kind x) 0) t in
+        n (s .inputOwner x) (step-set x h (eqb→eq (s .kind x) 0 b) refl (sym q)) a))
+
+    -- nothing precedes what is no call
+    pub into-past : Wired s → (c : ℕ) → total s ≤ c → into s passes c ≡ 0
+    into-past ok c h =
+        none-into c (λ a p t. let (x, y) = calls-only s a c (precedes-iff s ok a c .0 p) in omega arith)
