@@ -3,3 +3,7 @@ pub mod Packed
 pub mod Sound
 pub mod Check
 pub mod Layout
+pub mod Chain
+pub mod Wiring
+pub mod Checked
+pub mod Determined

@@ -1,4 +1,5 @@
 // The packed table: its parts and its check.
+pub mod check;
 pub mod parts;
 
 // A number and a place: what every call on packed tables answers.

@@ -1,0 +1,21 @@
+// What the C firmware calls: the check on byte buffers.
+ghost use mathlib.Core.Path.{_≡_};
+ghost use Prim.Native.Nat.{_≤_};
+ghost use Rattle.table.specs.Check.{checked};
+ghost use Rattle.firmware.specs.Code.{coded};
+use table::Answer;
+
+// 256 times the number plus the place, which is at most 224.
+fn code(answer: Answer) -> u32
+    requires { ⌜ answer .place ≤ 224 ⌝ }
+    ensures { λ r. ⌜ r ≡ coded answer ⌝ }
+{
+    256 * (answer.number as u32) + (answer.place as u32)
+}
+
+#[no_mangle]
+pub extern "C" fn oorlichday_check(table: &[u8]) -> u32
+    ensures { λ r. ⌜ r ≡ coded (checked (now (table .entry))) ⌝ }
+{
+    code(table::check::check(table))
+}

@@ -1,0 +1,49 @@
+use borrow.Author.Needs.{needs}
+use Rattle.table.proofs.check.feed_known.Statement.{statement}
+use Rattle.table.proofs.check.feed_known.Tie as tie
+use Rattle.table.proofs.Checking.{known-input, known-output, known-owners}
+
+mul-byte : tie.Need-mul-byte
+mul-byte c = search needs
+
+byte-requires : tie.Need-byte-requires
+byte-requires c κs = search needs
+
+mul-byte-2 : tie.Need-mul-byte-2
+mul-byte-2 c = search needs
+
+add-byte : tie.Need-add-byte
+add-byte c = search needs
+
+byte-requires-2 : tie.Need-byte-requires-2
+byte-requires-2 c κs = search needs
+
+returns : tie.Need-returns
+returns c = known-input _ _ _ _ _ _ (c .before .before .byte .ensures .0) (c .before .byte2 .ensures .0) (c .if1 .taken)
+
+returns-2 : tie.Need-returns-2
+returns-2 c = known-output _ _ _ _ _ _ (c .before .before .before .byte .ensures .0) (c .before .before .byte2 .ensures .0) (c .before .if1 .left) (c .if2 .taken)
+
+shared-slice-read-result : tie.Need-shared-slice-read-result
+shared-slice-read-result c = search needs
+
+shared-slice-read-result-2 : tie.Need-shared-slice-read-result-2
+shared-slice-read-result-2 c = search needs
+
+returns-3 : tie.Need-returns-3
+returns-3 c = known-owners _ _ _ _ _ _ (c .before .before .before .before .before .byte .ensures .0) (c .before .before .before .before .byte2 .ensures .0) (c .before .before .before .if1 .left) (c .before .before .if2 .left)
+
+pub feed-known-spec : {M : Type 1} → statement M
+feed-known-spec =
+    tie.close
+    (tie.spec
+    mul-byte
+    byte-requires
+    mul-byte-2
+    add-byte
+    byte-requires-2
+    returns
+    returns-2
+    shared-slice-read-result
+    shared-slice-read-result-2
+    returns-3)
