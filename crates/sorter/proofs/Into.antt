@@ -1,11 +1,11 @@
 -- Laws of the direct predecessors counted rule by rule: parts, bounds, and none exactly where none precedes.
 use mathlib.Core.Path.{_≡_, refl, sym, ap, _∙_}
 use mathlib.Core.Logic.{inl, inr}
-use mathlib.Core.Bool.{Bool, true, false, not, _&&_, and-comm}
+use mathlib.Core.Bool.{Bool, true, false, not, _&&_, and-comm, and-true}
 use Prim.Native.Nat.{ℕ, _+_, _≤_, _<_}
 use native.Mathlib.Omega.{arith}
-use lib.Dec.{T, eqb, eqb→eq}
-use Rattle.search.specs.Truth.{T-and, and-T, eq-true}
+use lib.Dec.{T, eqb, eqb→eq, eqb-refl}
+use Rattle.search.specs.Truth.{T-and, and-T, is-true, eq-true, same-test}
 use Rattle.search.specs.Sets.{add}
 use Rattle.search.specs.Count.{bit}
 use Rattle.table.specs.Shape.{Shape, total, Wired}
@@ -14,7 +14,7 @@ use Rattle.calls.specs.Precedence.{Precedes, step-get, get-set, set-get, set-st
 use Rattle.calls.specs.Neighbours.{precedes-iff, calls-only}
 use Rattle.sorter.specs.Less.{hits}
 use Rattle.sorter.specs.Waiting.{only, stepsToGets, getsToSets, setsToGets, setsToSteps, stepsToSets, into}
-use Rattle.sorter.proofs.Parts.{bit-and, hits-part, no-hits, hits-no, hits-le, row-once, part-of}
+use Rattle.sorter.proofs.Parts.{bit-and, hits-part, hits-same, no-hits, hits-no, hits-le, row-once, hit-at, part-of}
 
 module _ (s : Shape) where
   -- placing d takes from each call's count what d gives it
@@ -99,3 +99,72 @@ module _ (s : Shape) where
     pub into-past : Wired s → (c : ℕ) → total s ≤ c → into s passes c ≡ 0
     into-past ok c h =
         none-into c (λ a p t. let (x, y) = calls-only s a c (precedes-iff s ok a c .0 p) in omega arith)
+
+-- ---- what one call gives: by its kind
+
+-- two numbers are one exactly where they are so from the same start
+shifted : (n a b : ℕ) → eqb (n + a) (n + b) ≡ eqb a b
+shifted n a b =
+    same-test (eqb (n + a) (n + b)) (eqb a b)
+    (λ t. eq-true a b (let e = eqb→eq (n + a) (n + b) t in omega arith))
+    (λ t. eq-true (n + a) (n + b) (ap (λ x. n + x) (eqb→eq a b t)))
+
+module _ (s : Shape) (ok : Wired s) (c : ℕ) where
+  -- a step: the gets of its unit's outputs and the sets of its delayed inputs
+  pub into-step : (u : ℕ) → u < s .units → into s (only u) c ≡ stepsToGets s (only u) c + stepsToSets s (only u) c
+  unfolding into
+  into-step u h =
+      omega
+      (arith,
+      no-hits (setNo s) (s .inputs) c (λ x. only u (getNo s (s .source x)))
+      (λ x l t q. omega (arith, eqb→eq (getNo s (s .source x)) u t)),
+      no-hits (λ k. getNo s (s .feedOutput k)) (s .feeds) c (λ k. only u (setNo s (s .feedInput k)))
+      (λ k l t q. omega (arith, eqb→eq (setNo s (s .feedInput k)) u t)),
+      no-hits (s .inputOwner) (s .inputs) c (λ x. eqb (s .kind x) 1 && only u (setNo s x))
+      (λ x l t q. omega (arith, eqb→eq (setNo s x) u (T-and (eqb (s .kind x) 1) (only u (setNo s x)) t .1))))
+
+  -- a get: the sets of the inputs joined to it
+  pub into-get : (y : ℕ) → y < s .outputs
+      → into s (only (getNo s y)) c ≡ hits (λ x. eqb (s .source x) y) (setNo s) (s .inputs) c
+  unfolding into
+  into-get y h =
+      let d = getNo s y in
+      omega
+      (arith,
+      no-hits (getNo s) (s .outputs) c (λ z. only d (s .outputOwner z))
+      (λ z l t q. omega (arith, ok .output-owned z l, eqb→eq (s .outputOwner z) d t)),
+      hits-same (setNo s) (s .inputs) c (λ x. only d (getNo s (s .source x))) (λ x. eqb (s .source x) y)
+      (λ x l. shifted (s .units) (s .source x) y),
+      no-hits (λ k. getNo s (s .feedOutput k)) (s .feeds) c (λ k. only d (setNo s (s .feedInput k)))
+      (λ k l t q. omega (arith, eqb→eq (setNo s (s .feedInput k)) d t)),
+      no-hits (s .inputOwner) (s .inputs) c (λ x. eqb (s .kind x) 1 && only d (setNo s x))
+      (λ x l t q. omega (arith, eqb→eq (setNo s x) d (T-and (eqb (s .kind x) 1) (only d (setNo s x)) t .1))),
+      no-hits (setNo s) (s .inputs) c (λ x. only d (s .inputOwner x) && eqb (s .kind x) 0)
+      (λ x l t q.
+      omega (arith, ok .input-owned x l, eqb→eq (s .inputOwner x) d (T-and (only d (s .inputOwner x)) (eqb (s .kind x) 0) t .0))))
+
+  -- a set: the gets of the outputs that it feeds, and the step of its unit where it is reactive
+  pub into-set : (x : ℕ) → x < s .inputs
+      → into s (only (setNo s x)) c
+      ≡ hits (λ k. eqb (s .feedInput k) x) (λ k. getNo s (s .feedOutput k)) (s .feeds) c
+      + bit (eqb (s .kind x) 1 && eqb (s .inputOwner x) c)
+  unfolding into
+  into-set x h =
+      let d = setNo s x in
+      omega
+      (arith,
+      no-hits (getNo s) (s .outputs) c (λ z. only d (s .outputOwner z))
+      (λ z l t q. omega (arith, ok .output-owned z l, eqb→eq (s .outputOwner z) d t)),
+      no-hits (setNo s) (s .inputs) c (λ z. only d (getNo s (s .source z)))
+      (λ z l t q. omega (arith, ok .sourced z l, eqb→eq (getNo s (s .source z)) d t)),
+      hits-same (λ k. getNo s (s .feedOutput k)) (s .feeds) c (λ k. only d (setNo s (s .feedInput k)))
+      (λ k. eqb (s .feedInput k) x) (λ k l. shifted (s .units + s .outputs) (s .feedInput k) x),
+      hit-at (λ z. eqb (s .kind z) 1 && only d (setNo s z)) (s .inputOwner) (s .inputs) c x h
+      (λ z l t. omega (arith, eqb→eq (setNo s z) d (T-and (eqb (s .kind z) 1) (only d (setNo s z)) t .1))),
+      ap bit (own (eqb (s .kind x) 1) (only d d) (eqb (s .inputOwner x) c) (is-true (only d d) (eqb-refl d))),
+      no-hits (setNo s) (s .inputs) c (λ z. only d (s .inputOwner z) && eqb (s .kind z) 0)
+      (λ z l t q.
+      omega (arith, ok .input-owned z l, eqb→eq (s .inputOwner z) d (T-and (only d (s .inputOwner z)) (eqb (s .kind z) 0) t .0))))
+    where
+      own : (k e o : Bool) → e ≡ true → ((k && e) && o) ≡ (k && o)
+      own k e o p = rw (p, and-true k)
