@@ -9,6 +9,6 @@ coded a = 256 * a .number + a .place
 
 -- places up to 224 and numbers can be told apart again
 pub told-apart : (a b : Answer) → a .place ≤ 224 → b .place ≤ 224 → coded a ≡ coded b
-  → (a .number ≡ b .number) × (a .place ≡ b .place)
+    → (a .number ≡ b .number) × (a .place ≡ b .place)
 unfolding coded
 told-apart a b p q e = (omega arith, omega arith)

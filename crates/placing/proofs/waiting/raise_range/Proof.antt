@@ -1,15 +1,15 @@
-use Rattle.sorter.proofs.waiting.raise_range.Statement.{statement}
-use Rattle.sorter.proofs.waiting.raise_range.Tie as tie
-use Rattle.sorter.proofs.waiting.raise_range.Reads as reads
-use Rattle.sorter.proofs.waiting.raise_range.Lts as lts
+use Rattle.placing.proofs.waiting.raise_range.Statement.{statement}
+use Rattle.placing.proofs.waiting.raise_range.Tie as tie
+use Rattle.placing.proofs.waiting.raise_range.Reads as reads
+use Rattle.placing.proofs.waiting.raise_range.Lts as lts
 use borrow.Author.Needs.{needs}
 use Prim.Native.Nat.{ℕ, _+_, _-_, _≤_, _<_}
 use mathlib.Core.Path.{_≡_}
 use lib.ListN.{length, getD}
 use native.Mathlib.Omega.{arith}
 use Rattle.search.specs.Truth.{eq-true, eq-false}
-use Rattle.sorter.specs.Less.{each, nth, hits, Less}
-use Rattle.sorter.proofs.Hits.{less-none, less-all, raise-room, raise-hit}
+use Rattle.placing.specs.Less.{each, nth, hits, Less}
+use Rattle.placing.proofs.Hits.{less-none, less-all, raise-room, raise-hit}
 
 abbrev Inv-loop : tie.InvT-loop
 Inv-loop first count waiting₀ i₀ waiting i = (i ≤ count) × Less (hits each (nth first) i) waiting waiting₀

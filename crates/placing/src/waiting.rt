@@ -2,7 +2,7 @@
 ghost use mathlib.Core.Path.{_≡_};
 ghost use Prim.Native.Nat.{ℕ, _+_, _*_, _≤_, _<_};
 ghost use lib.ListN.{length, getD};
-ghost use Rattle.sorter.specs.Less.{each, isKey, areKeys, isInput, nth, called, fed, hits, Less};
+ghost use Rattle.placing.specs.Less.{each, isKey, areKeys, isInput, nth, called, fed, hits, Less};
 
 // One more at each of `count` calls from `first` on.
 pub fn raise_range(first: usize, count: usize, waiting: &mut [u8; 225])
@@ -92,7 +92,14 @@ pub fn lower_keyed(keys: &[u8], key: u8, first: usize, waiting: &mut [u8; 225])
 }
 
 // One less at the i-th call from `first` on for each place i of which both hold their key.
-pub fn lower_both(keys: &[u8], key: u8, others: &[u8], other: u8, first: usize, waiting: &mut [u8; 225])
+pub fn lower_both(
+    keys: &[u8],
+    key: u8,
+    others: &[u8],
+    other: u8,
+    first: usize,
+    waiting: &mut [u8; 225],
+)
     requires { ⌜ length (now waiting) ≡ 225 ⌝ }
     requires { ⌜ length (now keys) ≡ length (now others) ⌝ }
     requires { ⌜ first + length (now keys) ≤ 225 ⌝ }
@@ -100,7 +107,7 @@ pub fn lower_both(keys: &[u8], key: u8, others: &[u8], other: u8, first: usize, 
         ≤ getD (now waiting) c 0) ⌝ }
     ensures { λ r. ⌜ Less
         (hits (areKeys (now (keys .entry)) key (now (others .entry)) other) (nth first)
-            (length (now (keys .entry))))
+        (length (now (keys .entry))))
         (now (waiting .entry)) (now (waiting .exit)) ⌝ }
 {
     let mut i = 0;

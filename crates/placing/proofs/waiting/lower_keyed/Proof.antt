@@ -1,15 +1,15 @@
-use Rattle.sorter.proofs.waiting.lower_keyed.Statement.{statement}
-use Rattle.sorter.proofs.waiting.lower_keyed.Tie as tie
-use Rattle.sorter.proofs.waiting.lower_keyed.Reads as reads
-use Rattle.sorter.proofs.waiting.lower_keyed.Lts as lts
+use Rattle.placing.proofs.waiting.lower_keyed.Statement.{statement}
+use Rattle.placing.proofs.waiting.lower_keyed.Tie as tie
+use Rattle.placing.proofs.waiting.lower_keyed.Reads as reads
+use Rattle.placing.proofs.waiting.lower_keyed.Lts as lts
 use borrow.Author.Needs.{needs}
 use Prim.Native.Nat.{ℕ, _+_, _-_, _≤_, _<_}
 use mathlib.Core.Path.{_≡_}
 use lib.ListN.{length, getD}
 use native.Mathlib.Omega.{arith}
 use Rattle.search.specs.Truth.{eq-true, eq-false}
-use Rattle.sorter.specs.Less.{isKey, nth, hits, Less}
-use Rattle.sorter.proofs.Hits.{less-none, less-all, lower-some, lower-hit, less-miss}
+use Rattle.placing.specs.Less.{isKey, nth, hits, Less}
+use Rattle.placing.proofs.Hits.{less-none, less-all, lower-some, lower-hit, less-miss}
 use mathlib.Core.Logic.{⊎-elim}
 
 abbrev Inv-loop : tie.InvT-loop

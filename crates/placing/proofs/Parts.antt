@@ -9,8 +9,8 @@ use lib.Dec.{T, eqb, eqb→eq, not-T}
 use Rattle.search.specs.Truth.{T-and, and-T, either, clash, is-true, is-false, eq-true, eq-false}
 use Rattle.search.specs.Sets.{add, add-self, add-other}
 use Rattle.search.specs.Count.{bit, bit-le, count, count-le, count-same, count-none, count-zero}
-use Rattle.sorter.specs.Less.{nth, hits}
-use Rattle.sorter.specs.Waiting.{only}
+use Rattle.placing.specs.Less.{nth, hits}
+use Rattle.placing.specs.Waiting.{only}
 
 count-part : (p q r : ℕ → Bool) (n : ℕ) → ((i : ℕ) → bit (p i) ≡ bit (q i) + bit (r i))
     → count p n ≡ count q n + count r n

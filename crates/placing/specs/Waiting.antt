@@ -5,9 +5,10 @@ use mathlib.Core.List.{List}
 use Prim.Native.Nat.{ℕ, _+_}
 use lib.Dec.{eqb}
 use lib.ListN.{length, getD}
+use Rattle.search.specs.Count.{bit}
 use Rattle.table.specs.Shape.{Shape}
 use Rattle.calls.specs.Number.{getNo, setNo}
-use Rattle.sorter.specs.Less.{hits}
+use Rattle.placing.specs.Less.{hits}
 
 -- one call alone
 abbrev pub only : ℕ → ℕ → Bool
@@ -33,6 +34,10 @@ module _ (s : Shape) (passes : ℕ → Bool) where
   -- how many the five rules give it
   unfoldable pub into : ℕ → ℕ
   into c = stepsToGets c + getsToSets c + setsToGets c + setsToSteps c + stepsToSets c
+
+-- what a reactive input's set gives: one to the step of its unit
+unfoldable pub ownStep : Shape → ℕ → ℕ → ℕ
+ownStep s x c = bit (eqb (s .kind x) 1 && eqb (s .inputOwner x) c)
 
 -- 255 where the call is placed, else how many of its direct predecessors are not
 unfoldable pub waits : Shape → (ℕ → Bool) → ℕ → ℕ

@@ -1,3 +1,4 @@
 pub mod Hits
 pub mod Parts
 pub mod Into
+pub mod Gives

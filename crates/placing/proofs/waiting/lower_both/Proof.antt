@@ -1,17 +1,17 @@
-use Rattle.sorter.proofs.waiting.lower_both.Statement.{statement}
-use Rattle.sorter.proofs.waiting.lower_both.Tie as tie
-use Rattle.sorter.proofs.waiting.lower_both.Reads as reads
-use Rattle.sorter.proofs.waiting.lower_both.Lts as lts
+use Rattle.placing.proofs.waiting.lower_both.Statement.{statement}
+use Rattle.placing.proofs.waiting.lower_both.Tie as tie
+use Rattle.placing.proofs.waiting.lower_both.Reads as reads
+use Rattle.placing.proofs.waiting.lower_both.Lts as lts
 use borrow.Author.Needs.{needs}
 use Prim.Native.Nat.{ℕ, _+_, _-_, _≤_, _<_}
 use mathlib.Core.Path.{_≡_}
 use lib.ListN.{length, getD}
 use native.Mathlib.Omega.{arith}
 use Rattle.search.specs.Truth.{eq-true, eq-false}
-use Rattle.sorter.specs.Less.{areKeys, nth, hits, Less}
-use Rattle.sorter.proofs.Hits.{less-none, less-all, lower-some, lower-hit, less-miss}
+use Rattle.placing.specs.Less.{areKeys, nth, hits, Less}
+use Rattle.placing.proofs.Hits.{less-none, less-all, lower-some, lower-hit, less-miss}
 use mathlib.Core.Logic.{⊎-elim}
-use Rattle.sorter.proofs.Hits.{both-keys, first-other, second-other}
+use Rattle.placing.proofs.Hits.{both-keys, first-other, second-other}
 
 abbrev Inv-loop : tie.InvT-loop
 Inv-loop keys key others other first waiting₀ i₀ waiting i = (i ≤ (length keys)) × Less (hits (areKeys keys key others other) (nth first) i) waiting₀ waiting

@@ -1,0 +1,3 @@
+// Place all calls of a table that can be placed.
+mod release;
+mod waiting;

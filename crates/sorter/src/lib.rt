@@ -1,2 +1,0 @@
-// The order of a table's calls, or the cycle shown.
-mod waiting;
