@@ -2,3 +2,4 @@ pub mod Number
 pub mod Precedence
 pub mod Numbers
 pub mod Neighbours
+pub mod Determined

@@ -126,18 +126,20 @@ fn wiring(table: &[u8]) -> u8
     requires { ⌜ length (now table) ≡ asked (now table) ⌝ }
     ensures { λ r. ⌜ r ≡ wiring-of (now (table .entry)) ⌝ }
 {
+    let units = unit_count(table);
+    let outputs = output_count(table);
     let outs = output_owners(table);
     let ins = input_owners(table);
-    if !all_below(outs, unit_count(table)) {
+    if !all_below(outs, units) {
         return 3;
     }
-    if !all_below(ins, unit_count(table)) {
+    if !all_below(ins, units) {
         return 3;
     }
     if !all_below(input_kinds(table), 2) {
         return 4;
     }
-    if !all_below(input_sources(table), output_count(table)) {
+    if !all_below(input_sources(table), outputs) {
         return 5;
     }
     feeds_refusal(outs, ins, feed_pairs(table), feed_count(table))

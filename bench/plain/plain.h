@@ -1,0 +1,22 @@
+/* The library's jobs in plain C, unproved: what its instructions and answers are held beside. */
+#ifndef PLAIN_H
+#define PLAIN_H
+
+#include <stddef.h>
+#include <stdint.h>
+
+struct plain_reading {
+    uint8_t number;
+    size_t place;
+};
+
+uint32_t plain_check(const uint8_t *table, size_t table_len);
+uint32_t plain_order(const uint8_t *table, size_t table_len, uint8_t *order, size_t order_len);
+uint32_t plain_verdict(const uint8_t *table, size_t table_len,
+                       const uint8_t *order, size_t order_len);
+struct plain_reading plain_read(const uint8_t *text, size_t text_len,
+                                uint8_t *table, size_t table_len);
+struct plain_reading plain_list(const uint8_t *text, size_t text_len,
+                                uint8_t *out, size_t out_len);
+
+#endif

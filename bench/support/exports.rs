@@ -1,0 +1,26 @@
+//! The proved functions and the plain C versions of the same jobs.
+
+#[repr(C)]
+#[derive(Clone, Copy)]
+pub struct Reading {
+    pub number: u8,
+    pub place: usize,
+}
+
+pub type Check = unsafe extern "C" fn(*const u8, usize) -> u32;
+pub type Order = unsafe extern "C" fn(*const u8, usize, *mut u8, usize) -> u32;
+pub type Verdict = unsafe extern "C" fn(*const u8, usize, *const u8, usize) -> u32;
+pub type Read = unsafe extern "C" fn(*const u8, usize, *mut u8, usize) -> Reading;
+
+extern "C" {
+    pub fn oorlichday_check(table: *const u8, table_len: usize) -> u32;
+    pub fn oorlichday_order(table: *const u8, table_len: usize, order: *mut u8, order_len: usize) -> u32;
+    pub fn oorlichday_verdict(table: *const u8, table_len: usize, order: *const u8, order_len: usize) -> u32;
+    pub fn oorlichday_read(text: *const u8, text_len: usize, table: *mut u8, table_len: usize) -> Reading;
+    pub fn oorlichday_list(text: *const u8, text_len: usize, out: *mut u8, out_len: usize) -> Reading;
+    pub fn plain_check(table: *const u8, table_len: usize) -> u32;
+    pub fn plain_order(table: *const u8, table_len: usize, order: *mut u8, order_len: usize) -> u32;
+    pub fn plain_verdict(table: *const u8, table_len: usize, order: *const u8, order_len: usize) -> u32;
+    pub fn plain_read(text: *const u8, text_len: usize, table: *mut u8, table_len: usize) -> Reading;
+    pub fn plain_list(text: *const u8, text_len: usize, out: *mut u8, out_len: usize) -> Reading;
+}

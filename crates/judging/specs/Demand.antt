@@ -1,0 +1,50 @@
+-- Demand 2 over the bytes: what is passed keeps the rules, and what the order's procedure writes is passed.
+use mathlib.Core.Path.{_≡_, sym, _∙_}
+use mathlib.Core.Logic.{_↔_}
+use mathlib.Core.List.{List}
+use Prim.Native.Nat.{ℕ, _≤_, zero-le}
+use native.Mathlib.Omega.{arith}
+use native.Mathlib.Decide.{ℕ-discrete}
+use lib.ListN.{length}
+use Rattle.search.specs.Sets.{none}
+use Rattle.table.specs.Shape.{total}
+use Rattle.table.specs.Packed.{shapeOf}
+use Rattle.table.specs.Check.{refusal}
+use Rattle.table.specs.Sound.{Sound}
+use Rattle.table.specs.Checked.{passed-sound, few-calls}
+use Rattle.calls.specs.Precedence.{precedes}
+use Rattle.orders.specs.Keeps.{Keeps}
+use Rattle.orders.specs.Sort.{placed}
+use Rattle.orders.specs.Sorted.{placed-first}
+use Rattle.judging.specs.Passes.{Passes}
+use Rattle.judging.specs.Verdict.{answer, verdictOf}
+use Rattle.judging.specs.Judged.{verdict-sound, verdict-unsound, passed-iff, passed-N}
+use Rattle.judging.specs.Place.{verdict-place}
+use Rattle.judging.specs.Kept.{passes-iff}
+
+module _ (t : List ℕ) where
+  -- a given order is passed exactly when the table is sound and the list keeps the rules
+  pub passed-keeps : (l : List ℕ)
+      → (verdictOf t l .number ≡ 0)
+      ↔ ((refusal t ≡ 0) × Keeps (total (shapeOf t)) (precedes (shapeOf t)) l)
+  passed-keeps l = (
+    (λ e. let (z, p) = passed-iff t l .0 e in (z, passes-iff (shapeOf t) (passed-sound t z .wired) l .0 p)),
+    (λ (z, k). passed-iff t l .1 (z, passes-iff (shapeOf t) (passed-sound t z .wired) l .1 k)),
+  )
+
+  -- where the order's procedure places all N calls, the verdict on what it writes is a pass
+  pub order-passed : refusal t ≡ 0
+      → length (placed (total (shapeOf t)) (precedes (shapeOf t))) ≡ total (shapeOf t)
+      → verdictOf t (placed (total (shapeOf t)) (precedes (shapeOf t))) ≡ answer 0 (total (shapeOf t))
+  order-passed z e =
+      let l = placed (total (shapeOf t)) (precedes (shapeOf t)) in
+      passed-N t l (passed-keeps l .1 (z, placed-first (total (shapeOf t)) (precedes (shapeOf t)) e .keeps))
+
+  -- a place is at most 224
+  pub verdict-most : (l : List ℕ) → verdictOf t l .place ≤ 224
+  verdict-most l = elim (ℕ-discrete (refusal t) 0) [
+    | yes z ↦
+        (let few = few-calls t (passed-sound t z) in
+        rw (verdict-sound t l z) (omega (arith, verdict-place (shapeOf t) l)))
+    | no z ↦ rw (verdict-unsound t l z) zero-le
+  ]

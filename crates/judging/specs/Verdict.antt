@@ -1,0 +1,28 @@
+-- The verdict on a list of calls: the table first, then each call in turn.
+use mathlib.Core.Bool.{Bool, cond}
+use mathlib.Core.List.{List, [], _∷_}
+use Prim.Native.Nat.{ℕ, suc}
+use lib.Dec.{eqb}
+use Rattle.search.specs.Sets.{none, add}
+use Rattle.table.specs.declared.Answer.{Answer}
+use Rattle.table.specs.Shape.{Shape, total}
+use Rattle.table.specs.Packed.{shapeOf}
+use Rattle.table.specs.Check.{refusal}
+use Rattle.judging.specs.Conditions.{refusalAt}
+
+-- an answer is a number and a place
+abbrev pub answer : ℕ → ℕ → Answer
+answer n k = record { number = n; place = k }
+
+module _ (s : Shape) where
+  -- the calls from place k on, with k of them taken: the first refusal with its place;
+  -- at the end 18 with the order's length, or N where N calls were taken
+  unfoldable pub verdictFrom : (ℕ → Bool) → List ℕ → ℕ → Answer
+  verdictFrom done [] k = answer (cond (eqb k (total s)) 0 18) k
+  verdictFrom done (c ∷ l) k =
+      cond (eqb (refusalAt s done c) 0) (verdictFrom (add c done) l (suc k)) (answer (refusalAt s done c) k)
+
+-- an unsound table is refused first, by 1 to 7 with place 0; at the start nothing has been done
+unfoldable pub verdictOf : List ℕ → List ℕ → Answer
+verdictOf t order =
+    cond (eqb (refusal t) 0) (verdictFrom (shapeOf t) none order 0) (answer (refusal t) 0)

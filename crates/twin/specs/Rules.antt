@@ -1,0 +1,29 @@
+-- The rules of models: any functions of a state and of the values that document 01 lets them see.
+use mathlib.Core.Bool.{Bool, true, false}
+use mathlib.Core.List.{List, [], _∷_}
+use Prim.Native.Nat.{ℕ, zero, suc}
+use lib.Dec.{eqb}
+use Rattle.table.specs.Shape.{Shape}
+use Rattle.calls.specs.Precedence.{feedsTo}
+
+-- the values of those of the n numbers from k on that pass the test, by rising number
+unfoldable pub pick : {Val : Type 0} → (ℕ → Bool) → ℕ → ℕ → (ℕ → Val) → List Val
+pick q zero k value = []
+pick q (suc n) k value = elim (q k) [
+  | true ↦ value k ∷ pick q n (suc k) value
+  | false ↦ pick q n (suc k) value
+]
+
+-- the values of a unit's inputs
+abbrev pub ofUnit : {Val : Type 0} → Shape → ℕ → (ℕ → Val) → List Val
+ofUnit s u value = pick (λ x. eqb (s .inputOwner x) u) (s .inputs) 0 value
+
+-- the values of the inputs that feed an output
+abbrev pub feeding : {Val : Type 0} → Shape → ℕ → (ℕ → Val) → List Val
+feeding s y value = pick (λ x. feedsTo s x y) (s .inputs) 0 value
+
+-- for each unit a step rule on its old state and its inputs' values;
+-- for each output a rule on its unit's state and its feeding inputs' values
+pub record Rules (Val : Type 0) : Type 0 where
+  pub stepRule : ℕ → Val → List Val → Val
+  pub outputRule : ℕ → Val → List Val → Val

@@ -1,0 +1,49 @@
+-- The run of an order with values, defined call by call.
+use mathlib.Core.Bool.{cond}
+use mathlib.Core.List.{List, [], _∷_}
+use Prim.Native.Nat.{ℕ, suc}
+use lib.Dec.{eqb}
+use Rattle.table.specs.Shape.{Shape}
+use Rattle.calls.specs.declared.Call.{Call}
+use Rattle.calls.specs.declared.Call.the-variants.{Step, Get, Set, NoCall}
+use Rattle.calls.specs.Number.{callOf, stepNo, getNo, setNo}
+use Rattle.twin.specs.Rules.{ofUnit, feeding, Rules}
+
+-- what a unit or a port holds: its state or value, and its time, counted in steps
+pub record Held (Val : Type 0) : Type 0 where
+  pub value : Val
+  pub time : ℕ
+
+-- what all hold: at a step's number its unit, at a get's its output, at a set's its input
+abbrev pub World : Type 0 → Type 0
+World Val = ℕ → Held Val
+
+-- unit or port a goes from the old time to the new with this value, and nothing else moves
+abbrev pub moved : {Val : Type 0} → World Val → ℕ → Val → World Val
+moved w a v b = cond (eqb b a) (record { value = v; time = suc (w a .time) }) (w b)
+
+-- the values as they stand
+abbrev pub state : {Val : Type 0} → World Val → ℕ → Val
+state w u = w (stepNo u) .value
+
+abbrev pub outputValue : {Val : Type 0} → Shape → World Val → ℕ → Val
+outputValue s w y = w (getNo s y) .value
+
+abbrev pub inputValue : {Val : Type 0} → Shape → World Val → ℕ → Val
+inputValue s w x = w (setNo s x) .value
+
+module _ {Val : Type 0} (s : Shape) (m : Rules Val) where
+  abbrev pub acts : World Val → Call → World Val
+  -- a step applies the step rule to the inputs as they then stand
+  acts w (Step u) = moved w (stepNo u) (m .stepRule u (state w u) (ofUnit s u (inputValue s w)))
+  -- a get applies the output's rule
+  acts w (Get y) =
+      moved w (getNo s y) (m .outputRule y (state w (s .outputOwner y)) (feeding s y (inputValue s w)))
+  -- a set copies the source's value
+  acts w (Set x) = moved w (setNo s x) (outputValue s w (s .source x))
+  acts w NoCall = w
+
+  -- the calls of a list in turn
+  unfoldable pub run : World Val → List ℕ → World Val
+  run w [] = w
+  run w (c ∷ l) = run (acts w (callOf s c)) l

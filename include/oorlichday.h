@@ -1,0 +1,68 @@
+/* The order of calls for one step of joined models: check a table, order its calls, judge an order. */
+#ifndef OORLICHDAY_H
+#define OORLICHDAY_H
+
+#include <stddef.h>
+#include <stdint.h>
+
+#ifdef __cplusplus
+extern "C" {
+#endif
+
+/* Greatest sizes in bytes of a packed table and of an order. */
+#define OORLICHDAY_TABLE_MAX 644u
+#define OORLICHDAY_ORDER_MAX 224u
+
+/* The numbers of an answer. 0 is success; 1 to 7 are the table's, 8 to 10 the order's, 11 to 18 the verdict's. */
+enum oorlichday_number {
+    OORLICHDAY_OK = 0,
+    OORLICHDAY_LENGTH = 1,            /* table under 4 bytes, or not the length its counts ask */
+    OORLICHDAY_COUNT = 2,             /* a count outside its range */
+    OORLICHDAY_OWNER = 3,             /* owner not below U */
+    OORLICHDAY_KIND = 4,              /* kind above 1 */
+    OORLICHDAY_SOURCE = 5,            /* source not below Y */
+    OORLICHDAY_FEED = 6,              /* feed names no input or no output, or owners differ */
+    OORLICHDAY_FEED_TWICE = 7,        /* feed pair given before */
+    OORLICHDAY_ROOM = 8,              /* order buffer under N bytes */
+    OORLICHDAY_CYCLE = 9,             /* cycle; its length is the place */
+    OORLICHDAY_NOTHING_READY = 10,    /* nothing ready and no cycle found; never given for a sound table */
+    OORLICHDAY_NO_CALL = 11,          /* no such call */
+    OORLICHDAY_DONE_BEFORE = 12,      /* call done before */
+    OORLICHDAY_DELAYED_SET = 13,      /* step: a delayed input is already set */
+    OORLICHDAY_REACTIVE_NOT_SET = 14, /* step: a reactive input is not set */
+    OORLICHDAY_NOT_STEPPED = 15,      /* get: unit not stepped */
+    OORLICHDAY_FEEDING_NOT_SET = 16,  /* get: a feeding input not set */
+    OORLICHDAY_SOURCE_NOT_GOT = 17,   /* set: source not got */
+    OORLICHDAY_ENDED = 18             /* order ended before N calls; the order's length is the place */
+};
+
+/*
+ * Every answer is 256 times its number plus its place.
+ *
+ * What the caller owes: each pointer is not null and points at as many bytes as the length beside it
+ * says, for the time of the call (a length of 0 may come with any non-null pointer). The bytes that
+ * are written to overlap no other buffer of the same call; those that are only read may overlap.
+ * The functions keep no state, allocate nothing and may be called from any thread.
+ */
+
+static inline uint32_t oorlichday_number(uint32_t answer) { return answer >> 8; }
+static inline uint32_t oorlichday_place(uint32_t answer) { return answer & 255u; }
+
+/* Is the table sound? 0 with N, the number of its calls, or the first of 1 to 7 with place 0. */
+uint32_t oorlichday_check(const uint8_t *table, size_t table_len);
+
+/*
+ * The first order of the table's calls: 0 with N, and N bytes at the front of `order`; or 9 with the
+ * cycle's length, and that many bytes; or 1 to 8. Every other byte of `order` is left as it was.
+ */
+uint32_t oorlichday_order(const uint8_t *table, size_t table_len, uint8_t *order, size_t order_len);
+
+/* Does the given order keep the rules? 0 with N; or 1 to 7; or the number and place of its first fault. */
+uint32_t oorlichday_verdict(const uint8_t *table, size_t table_len,
+                            const uint8_t *order, size_t order_len);
+
+#ifdef __cplusplus
+}
+#endif
+
+#endif

@@ -1,0 +1,68 @@
+//! Call numbers and the five sentences on precedence.
+
+use super::table::Table;
+
+#[derive(Clone, Copy, PartialEq, Eq, Debug)]
+pub enum Call {
+    Step(usize),
+    Get(usize),
+    Set(usize),
+}
+
+impl Table {
+    pub fn step(&self, unit: usize) -> usize {
+        unit
+    }
+
+    pub fn get(&self, output: usize) -> usize {
+        self.units + output
+    }
+
+    pub fn set(&self, input: usize) -> usize {
+        self.units + self.outputs() + input
+    }
+
+    /// The call that a number stands for; all else is no call.
+    pub fn call(&self, number: usize) -> Option<Call> {
+        if number < self.units {
+            Some(Call::Step(number))
+        } else if number < self.units + self.outputs() {
+            Some(Call::Get(number - self.units))
+        } else if number < self.calls() {
+            Some(Call::Set(number - self.units - self.outputs()))
+        } else {
+            None
+        }
+    }
+
+    /// For each call its direct predecessors, by rising number.
+    pub fn predecessors(&self) -> Vec<Vec<usize>> {
+        let mut before = vec![Vec::new(); self.calls()];
+        // Step of a unit comes before get of each of its outputs.
+        for output in 0..self.outputs() {
+            before[self.get(output)].push(self.step(self.output_owner[output]));
+        }
+        // Get of an output comes before set of each input joined to it.
+        for input in 0..self.inputs() {
+            before[self.set(input)].push(self.get(self.source[input]));
+        }
+        // Set of an input comes before get of each output that it feeds.
+        for &(input, output) in &self.feeds {
+            before[self.get(output)].push(self.set(input));
+        }
+        for input in 0..self.inputs() {
+            let (step, set) = (self.step(self.input_owner[input]), self.set(input));
+            if self.reactive[input] {
+                // Set of a reactive input comes before the step of its unit.
+                before[step].push(set);
+            } else {
+                // Step of a unit comes before set of each of its delayed inputs.
+                before[set].push(step);
+            }
+        }
+        for calls in &mut before {
+            calls.sort_unstable();
+        }
+        before
+    }
+}

@@ -1,0 +1,30 @@
+//! The library's answers, written a second time from document 01's sentences and nothing else.
+
+pub mod calls;
+pub mod list;
+pub mod order;
+pub mod table;
+pub mod text;
+pub mod verdict;
+
+/// A number, and a place (or a line of a text).
+#[derive(Clone, Copy, PartialEq, Eq, Debug)]
+pub struct Answer {
+    pub number: usize,
+    pub place: usize,
+}
+
+/// Success with a place.
+pub fn success(place: usize) -> Answer {
+    Answer { number: 0, place }
+}
+
+/// A refusal with a place.
+pub fn refusal(number: usize, place: usize) -> Answer {
+    Answer { number, place }
+}
+
+/// What the C side gets: 256 times the number plus the place.
+pub fn as_c(answer: Answer) -> u32 {
+    (256 * answer.number + answer.place) as u32
+}

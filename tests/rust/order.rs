@@ -1,0 +1,134 @@
+//! The archive's order against the reference: answers, bytes written, bytes left alone.
+
+#[path = "../reference/mod.rs"]
+#[allow(dead_code)]
+mod reference;
+mod support;
+
+use reference::table::Table;
+use reference::{as_c, order::order, Answer};
+use support::calls::Lender;
+use support::damage::{damaged, mutated};
+use support::random::{fuzzing, Random};
+use support::tables::{self, acyclic, any, chain, counts, relabelled, ring, GREATEST};
+
+fn agree(lender: &mut Lender, random: &mut Random, bytes: &[u8], room: usize) -> Answer {
+    let (expected, front) = order(bytes, room);
+    let before = random.bytes(room);
+    let answer = lender.order(bytes, &before, &front);
+    assert_eq!(answer, as_c(expected), "order of {:?} in {} bytes", bytes, room);
+    expected
+}
+
+#[test]
+fn tables_without_a_cycle() {
+    let (mut random, mut lender) = (Random::new(21), Lender::new());
+    for _ in 0..50_000 {
+        let counts = counts(&mut random);
+        let (table, _) = acyclic(&mut random, counts);
+        let room = table.calls() + random.below(3);
+        let answer = agree(&mut lender, &mut random, &table.packed(), room);
+        assert_eq!((answer.number, answer.place), (0, table.calls()));
+    }
+}
+
+#[test]
+fn tables_with_and_without_cycles() {
+    let (mut random, mut lender) = (Random::new(22), Lender::new());
+    let mut reached = [0usize; 19];
+    for round in 0..60_000 {
+        let counts = counts(&mut random);
+        let table = any(&mut random, counts);
+        let room = if round % 8 == 0 { random.below(table.calls() + 4) } else { 224 };
+        reached[agree(&mut lender, &mut random, &table.packed(), room).number] += 1;
+    }
+    assert!([0, 8, 9].iter().all(|&number| reached[number] >= 1000), "{:?}", reached);
+}
+
+#[test]
+fn damaged_tables_leave_the_buffer() {
+    let (mut random, mut lender) = (Random::new(23), Lender::new());
+    let mut reached = [0usize; 19];
+    for round in 0..21_000 {
+        let table = tables::sound(&mut random);
+        if let Some(bytes) = damaged(&mut random, &table, 1 + round % 7, round / 7 % 3) {
+            let room = random.below(300);
+            reached[agree(&mut lender, &mut random, &bytes, room).number] += 1;
+        }
+    }
+    assert!((1..8).all(|number| reached[number] >= 100), "{:?}", reached);
+}
+
+#[test]
+fn every_buffer_length() {
+    let (mut random, mut lender) = (Random::new(24), Lender::new());
+    for round in 0..60 {
+        let table = if round % 20 == 0 { any(&mut random, GREATEST) } else { tables::sound(&mut random) };
+        for room in 0..table.calls() + 4 {
+            let answer = agree(&mut lender, &mut random, &table.packed(), room);
+            assert_eq!(answer.number == 8, room < table.calls());
+        }
+    }
+}
+
+#[test]
+fn chains_and_rings_of_all_calls() {
+    let (mut random, mut lender) = (Random::new(25), Lender::new());
+    for units in 1..=32 {
+        for _ in 0..40 {
+            let open = relabelled(&mut random, &chain(units, false));
+            let answer = agree(&mut lender, &mut random, &open.packed(), 224);
+            assert_eq!((answer.number, answer.place), (0, 7 * units));
+            let ring = relabelled(&mut random, &chain(units, true));
+            let answer = agree(&mut lender, &mut random, &ring.packed(), 224);
+            assert_eq!((answer.number, answer.place), (9, 3 * units));
+        }
+    }
+}
+
+/// Rings of 190 to 223 calls, half of them with a unit that only waits behind the cycle.
+#[test]
+fn long_rings() {
+    let (mut random, mut lender) = (Random::new(26), Lender::new());
+    for round in 0..2_000 {
+        let (k, tail) = (round / 2 % 31, round % 2 == 0);
+        let ports = if tail { 95 } else { 96 };
+        let mut table = ring(k, ports);
+        if tail {
+            add_a_tail(&mut table);
+        }
+        let table = relabelled(&mut random, &table);
+        let answer = agree(&mut lender, &mut random, &table.packed(), 224);
+        assert_eq!((answer.number, answer.place), (9, 2 * ports + k));
+    }
+    let answer = agree(&mut lender, &mut random, &ring(31, 96).packed(), 224);
+    assert_eq!((answer.number, answer.place), (9, 223));
+}
+
+/// One more unit, which waits for a reactive input from the ring and that nobody reads from.
+fn add_a_tail(table: &mut Table) {
+    table.input_owner.push(table.units);
+    table.reactive.push(true);
+    table.source.push(0);
+    table.units += 1;
+}
+
+#[test]
+fn fuzz_order() {
+    let ((rounds, mut random), mut lender) = (fuzzing(27), Lender::new());
+    for _ in 0..rounds {
+        let bytes = match random.below(6) {
+            0 => {
+                let length = random.below(700);
+                random.bytes(length)
+            }
+            1 | 2 => tables::sound(&mut random).packed(),
+            _ => {
+                let table = tables::sound(&mut random).packed();
+                mutated(&mut random, &table)
+            }
+        };
+        let room = if random.percent(70) { 224 } else { random.below(260) };
+        agree(&mut lender, &mut random, &bytes, room);
+    }
+}

@@ -1,0 +1,123 @@
+//! The reference itself: document 01's examples, and answers that must agree with each other.
+
+#[path = "../reference/mod.rs"]
+#[allow(dead_code)]
+mod reference;
+mod support;
+
+use reference::calls::Call;
+use reference::list::listing;
+use reference::verdict::{verdict, verdict_of_records};
+use reference::{order::order, table::check, text::read, Answer};
+use support::orders::near_miss;
+use support::random::Random;
+use support::tables::{acyclic, counts};
+
+const A: &[u8] = &[2, 2, 2, 0, 0, 1, 0, 1, 0, 1, 1, 0];
+const C: &[u8] = &[2, 2, 2, 0, 0, 1, 0, 1, 0, 0, 1, 0];
+const G: &[u8] = &[2, 2, 2, 1, 0, 1, 0, 1, 0, 0, 1, 0, 1, 1];
+
+fn answer(number: usize, place: usize) -> Answer {
+    Answer { number, place }
+}
+
+#[test]
+fn orders_and_cycles_of_the_document() {
+    let shows = |table: &[u8], number: usize, calls: &[u8]| {
+        assert_eq!(order(table, 224), (answer(number, calls.len()), calls.to_vec()));
+    };
+    shows(A, 0, &[0, 2, 5, 1, 3, 4]);
+    shows(&[2, 2, 2, 0, 0, 1, 0, 1, 1, 1, 1, 0], 9, &[0, 2, 5, 1, 3, 4]);
+    shows(C, 0, &[0, 1, 2, 3, 4, 5]);
+    shows(&[2, 2, 2, 2, 0, 1, 0, 1, 0, 0, 1, 0, 0, 0, 1, 1], 9, &[2, 5, 3, 4]);
+    shows(G, 0, &[0, 1, 2, 5, 3, 4]);
+    shows(&[1, 0, 0, 0], 0, &[0]);
+    shows(&[1, 1, 1, 0, 0, 0, 0, 0], 0, &[0, 1, 2]);
+    shows(&[1, 1, 1, 0, 0, 0, 1, 0], 9, &[0, 1, 2]);
+    shows(&[3, 2, 3, 0, 1, 2, 1, 2, 0, 1, 1, 1, 0, 1, 1], 9, &[2, 4, 6]);
+    assert_eq!(order(A, 5), (answer(8, 0), vec![]));
+}
+
+#[test]
+fn verdicts_of_the_document() {
+    let cases: [(&[u8], &[u8], Answer); 13] = [
+        (A, &[0, 2, 5, 1, 3, 4], answer(0, 6)),
+        (C, &[1, 0, 3, 4, 2, 5], answer(0, 6)),
+        (G, &[0, 1, 3], answer(16, 2)),
+        (A, &[0, 1], answer(14, 1)),
+        (C, &[0, 2, 5, 1], answer(13, 3)),
+        (A, &[0, 2, 2], answer(12, 2)),
+        (A, &[0, 3], answer(15, 1)),
+        (A, &[0, 2, 4], answer(17, 2)),
+        (A, &[6], answer(11, 0)),
+        (A, &[0, 2, 5, 1, 3], answer(18, 5)),
+        (A, &[], answer(18, 0)),
+        (A, &[0, 2, 5, 1, 3, 4, 0], answer(12, 6)),
+        (&[33, 0, 0, 0], &[], answer(2, 0)),
+    ];
+    for (table, calls, expected) in cases {
+        assert_eq!(verdict(table, calls), expected);
+    }
+    assert_eq!(verdict_of_records(A, &[(0, 2)]), answer(11, 0));
+    assert_eq!(verdict_of_records(A, &[(3, 0)]), answer(11, 0));
+}
+
+#[test]
+fn checks_of_the_document() {
+    assert_eq!(check(&[32, 0, 0, 0]), answer(0, 32));
+    assert_eq!(check(&[33, 0, 0, 0]), answer(2, 0));
+    assert_eq!(check(&[33, 0, 0, 0, 0]), answer(2, 0));
+    assert_eq!(check(&[33, 0, 0]), answer(1, 0));
+    assert_eq!(check(&[1, 0, 1, 0, 0, 0, 0]), answer(5, 0));
+    assert_eq!(check(&[1, 0, 0, 1, 0, 0]), answer(6, 0));
+}
+
+const TEXT: &[u8] = b"cosim\t1\nunit\tpump\nunit\ttank\nout\tpump\tflow\nout\ttank\tlevel\n\
+in\tpump\tlevel\tdelayed\nin\ttank\tflow\treactive\njoin\tpump\tflow\ttank\tflow\n\
+join\ttank\tlevel\tpump\tlevel\n";
+
+#[test]
+fn text_and_listing_of_the_document() {
+    assert_eq!(read(TEXT, 12), (answer(0, 12), A.to_vec()));
+    assert_eq!(read(TEXT, 11), (answer(34, 0), vec![]));
+    let expected = b"order\t6\n0\tstep\tpump\t-\n1\tget\tpump\tflow\n2\tset\ttank\tflow\n\
+3\tstep\ttank\t-\n4\tget\ttank\tlevel\n5\tset\tpump\tlevel\n";
+    assert_eq!(listing(TEXT), expected.to_vec());
+    let refused: [(&[u8], Answer); 12] = [
+        (b"", answer(20, 0)),
+        (b"\n", answer(23, 1)),
+        (b"cosim\t1\n\n", answer(24, 2)),
+        (b"cosim\t1\nunit\n", answer(24, 2)),
+        (b"cosim\t1\nunit\t\n", answer(25, 2)),
+        (b"cosim\t1\nunit\tseventeen_letters\n", answer(25, 2)),
+        (b"cosim\t1\nin\tb\tx\tmaybe\n", answer(28, 2)),
+        (b"cosim\t1\nin\tb\tx\tdelayed\n", answer(27, 2)),
+        (b"cosim\t1\n", answer(33, 1)),
+        (b"cosim\t1\nunit\ta\nin\ta\tx\tdelayed\n", answer(31, 3)),
+        (b"cosim\t1\nunit A\nunit\ta", answer(21, 3)),
+        (b"cosim\t1\nunit A\n", answer(22, 2)),
+    ];
+    for (text, expected) in refused {
+        assert_eq!(read(text, 644), (expected, vec![]));
+    }
+}
+
+/// The verdict on records equals that on the numbered form.
+#[test]
+fn records_and_numbers_agree() {
+    let mut random = Random::new(61);
+    for round in 0..20_000 {
+        let counts = counts(&mut random);
+        let (table, calls) = acyclic(&mut random, counts);
+        let calls = near_miss(&mut random, &table, &calls, round % 3);
+        let record = |&call: &u8| match table.call(call as usize) {
+            Some(Call::Step(unit)) => (0, unit as u8),
+            Some(Call::Get(output)) => (1, output as u8),
+            Some(Call::Set(input)) => (2, input as u8),
+            None => (3, 0),
+        };
+        let records: Vec<(u8, u8)> = calls.iter().map(record).collect();
+        let bytes = table.packed();
+        assert_eq!(verdict_of_records(&bytes, &records), verdict(&bytes, &calls));
+    }
+}

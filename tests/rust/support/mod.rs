@@ -1,0 +1,11 @@
+//! What the tests share: the archive's functions, lent buffers, and makers of tables and texts.
+#![allow(dead_code)]
+
+pub mod calls;
+pub mod damage;
+pub mod faults;
+pub mod lent;
+pub mod orders;
+pub mod random;
+pub mod tables;
+pub mod texts;
