@@ -2,3 +2,5 @@ pub mod Hits
 pub mod Parts
 pub mod Into
 pub mod Gives
+pub mod Filled
+pub mod Stage

@@ -1,2 +1,3 @@
 pub mod Less
 pub mod Waiting
+pub mod Placing

@@ -5,8 +5,11 @@ ghost use lib.ListN.{length, getD};
 ghost use Rattle.table.specs.Packed.{units, outputs, inputs, shapeOf};
 ghost use Rattle.table.specs.Sound.{Sound};
 ghost use Rattle.calls.specs.Number.{getNo, setNo};
+ghost use Rattle.placing.specs.Placing.{callCount};
 ghost use Rattle.placing.specs.Less.{Less};
 ghost use Rattle.placing.specs.Waiting.{only, into, ownStep};
+use calls::Call;
+use calls::number::call_of;
 use crate::waiting::lower_both;
 use crate::waiting::lower_fed;
 use crate::waiting::lower_keyed;
@@ -89,4 +92,22 @@ fn release_set(table: &[u8], input: usize, waiting: &mut [u8; 225])
         waiting,
     );
     release_unit(table, input, waiting);
+}
+
+// The call that is placed releases its direct successors.
+pub fn release(table: &[u8], call: usize, waiting: &mut [u8; 225])
+    requires { ⌜ Sound (now table) ⌝ }
+    requires { ⌜ call < callCount (now table) ⌝ }
+    requires { ⌜ length (now waiting) ≡ 225 ⌝ }
+    requires { ⌜ ((c : ℕ) → into (shapeOf (now table)) (only call) c ≤ getD (now waiting) c 0) ⌝ }
+    ensures { λ r. ⌜ Less (into (shapeOf (now (table .entry))) (only call))
+        (now (waiting .entry)) (now (waiting .exit)) ⌝ }
+{
+    let kind = call_of(table, call);
+    match kind {
+        Call::Step(unit) => release_step(table, unit, waiting),
+        Call::Get(output) => release_get(table, output, waiting),
+        Call::Set(input) => release_set(table, input, waiting),
+        Call::NoCall => {}
+    }
 }

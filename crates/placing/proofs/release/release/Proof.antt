@@ -1,0 +1,73 @@
+use borrow.Author.Needs.{needs}
+use Rattle.placing.proofs.release.release.Statement.{statement}
+use Rattle.placing.proofs.release.release.Tie as tie
+use Rattle.placing.proofs.release.release.Reads as reads
+use Rattle.placing.proofs.release.release.Lts as lts
+use Rattle.calls.proofs.number.call_of.Reads as call-of-reads
+use Rattle.placing.proofs.release.release_get.Reads as release-get-reads
+use Rattle.placing.proofs.release.release_set.Reads as release-set-reads
+use Rattle.placing.proofs.release.release_step.Reads as release-step-reads
+
+-- src/release.rt:106:9
+call-of-requires : tie.Need-call-of-requires
+call-of-requires c κs = search needs
+
+-- src/release.rt:108:20
+enum-known-kind : tie.Need-enum-known-kind
+enum-known-kind c = search needs
+
+-- src/release.rt:108:29
+release-step-requires : tie.Need-release-step-requires
+release-step-requires c κs = ?
+
+-- src/release.rt:109:19
+enum-known-kind-2 : tie.Need-enum-known-kind-2
+enum-known-kind-2 c = search needs
+
+-- src/release.rt:109:30
+release-get-requires : tie.Need-release-get-requires
+release-get-requires c κs = ?
+
+-- src/release.rt:110:19
+enum-known-kind-3 : tie.Need-enum-known-kind-3
+enum-known-kind-3 c = search needs
+
+-- src/release.rt:110:29
+release-set-requires : tie.Need-release-set-requires
+release-set-requires c κs = ?
+
+enum-told : tie.Need-enum-told
+enum-told c = search needs
+
+-- src/release.rt:98:1
+returns : tie.Need-returns
+returns c = ?
+
+-- src/release.rt:98:1
+returns-2 : tie.Need-returns-2
+returns-2 c = ?
+
+-- src/release.rt:98:1
+returns-3 : tie.Need-returns-3
+returns-3 c = ?
+
+-- src/release.rt:98:1
+returns-4 : tie.Need-returns-4
+returns-4 c = ?
+
+pub release-spec : {M : Type 1} → statement M
+release-spec =
+    tie.close
+    (tie.spec
+    call-of-requires
+    enum-known-kind
+    release-step-requires
+    enum-known-kind-2
+    release-get-requires
+    enum-known-kind-3
+    release-set-requires
+    enum-told
+    returns
+    returns-2
+    returns-3
+    returns-4)
