@@ -4,3 +4,5 @@ pub mod Into
 pub mod Gives
 pub mod Filled
 pub mod Stage
+pub mod Told
+pub mod Passed

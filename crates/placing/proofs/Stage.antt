@@ -8,7 +8,17 @@ use native.Mathlib.Numerals.{add-one}
 use native.Mathlib.Omega.{arith}
 use native.Mathlib.Decide.{ℕ-discrete, decLt}
 use lib.Dec.{T, eqb, eqb→eq, eqb-refl}
-use lib.ListN.{length, getD, set, take, length-set}
+use lib.ListN.{
+  length,
+  getD,
+  set,
+  take,
+  replicate,
+  length-set,
+  length-replicate,
+  getD-replicate,
+  List·getD-eq-default,
+}
 use lib.Seq.{take-suc-set, getD-set-same, getD-set-other}
 use Rattle.search.specs.Truth.{T-and, and-T, either, clash, is-true, is-false, eq-true, eq-false, same-test, not-not}
 use Rattle.search.specs.Sets.{none, add, add-self, add-other, add-cases, add-more}
@@ -96,70 +106,73 @@ lowest-same p q n h =
     })
     (lowest-is q n)
 
+-- an array of zeros
+pub zeros : (n c : ℕ) → _≡_ {A = ℕ} (getD (replicate n 0) c 0) 0
+zeros n c = elim (decLt c n) [
+  | yes h ↦ getD-replicate {A = ℕ} n c 0 0 h
+  | no h ↦
+      List·getD-eq-default {A = ℕ} (replicate n 0) 0 {n = c} (rw (length-replicate {A = ℕ} n 0) (omega arith))
+]
+
 -- ---- the loop
-module _ (t : List ℕ) (ok : Sound t) where
-  abbrev s : Shape
-  s = shapeOf t
-
-  abbrev N : ℕ
-  N = callCount t
-
+module _ (t : List ℕ) where
   -- k calls stand in their order, the counts are those of what is left, and what is placed has its predecessors
   pub record Stage (calls₀ calls counts : List ℕ) (k : ℕ) : Type 0 where
-    pub most : k ≤ N
-    pub front : Fronting (placedOf t) (sort N (precedes s) (N - k) (among (take k calls))) calls₀ calls k
-    pub waiting : Waiting s (among (take k calls)) counts
-    pub known : (c : ℕ) → T (among (take k calls) c) → c < N
-    pub closed : (a c : ℕ) → T (among (take k calls) c) → T (precedes s a c) → T (among (take k calls) a)
+    pub most : k ≤ callCount t
+    pub front : Fronting (placedOf t) (sort (callCount t) (precedes (shapeOf t)) ((callCount t) - k) (among (take k calls))) calls₀ calls k
+    pub waiting : Waiting (shapeOf t) (among (take k calls)) counts
+    pub known : (c : ℕ) → T (among (take k calls) c) → c < callCount t
+    pub closed : (a c : ℕ) → T (among (take k calls) c) → T (precedes (shapeOf t) a c) → T (among (take k calls) a)
 
-  pub stage-starts : (calls counts : List ℕ) → Waiting s none counts → Stage calls calls counts 0
+module _ (t : List ℕ) (ok : Sound t) where
+  pub stage-starts : (calls counts : List ℕ) → Waiting (shapeOf t) none counts → Stage t calls calls counts 0
   unfolding placedOf placed
   stage-starts calls counts w = record {
     most = omega arith;
-    front = let e : N - 0 ≡ N = omega arith in rw e (fronting-starts (placedOf t) calls);
+    front = let e : (callCount t) - 0 ≡ (callCount t) = omega arith in rw e (fronting-starts (placedOf t) calls);
     waiting = w;
     known = λ c z. absurd z;
     closed = λ a c z. absurd z;
   }
 
   -- the 0 behind the last call
-  pub stage-last : (calls₀ calls counts : List ℕ) (k : ℕ) → Stage calls₀ calls counts k → getD counts N 0 ≡ 0
-  stage-last calls₀ calls counts k g = g .waiting .each N ∙ go
+  pub stage-last : (calls₀ calls counts : List ℕ) (k : ℕ) → Stage t calls₀ calls counts k → getD counts (callCount t) 0 ≡ 0
+  stage-last calls₀ calls counts k g = g .waiting .each (callCount t) ∙ go
     where
-      go : waits s (among (take k calls)) N ≡ 0
-      go = elim (either (among (take k calls) N)) [
-        | inl z ↦ absurd (let h = g .known N z in omega arith)
+      go : waits (shapeOf t) (among (take k calls)) (callCount t) ≡ 0
+      go = elim (either (among (take k calls) (callCount t))) [
+        | inl z ↦ absurd (let h = g .known (callCount t) z in omega arith)
         | inr z ↦
-            left-waits s (ok .wired) (among (take k calls)) N z
-            ∙ into-past s (λ a. not (among (take k calls) a)) (ok .wired) N (omega arith)
+            left-waits (shapeOf t) (ok .wired) (among (take k calls)) (callCount t) z
+            ∙ into-past (shapeOf t) (λ a. not (among (take k calls) a)) (ok .wired) (callCount t) (omega arith)
       ]
 
   -- the lowest call that waits for none is the lowest ready call
-  pub stage-next : (calls₀ calls counts : List ℕ) (k : ℕ) → Stage calls₀ calls counts k
-      → leastFrom (isKey counts 0) N 0 ≡ nextCall N (precedes s) (among (take k calls))
+  pub stage-next : (calls₀ calls counts : List ℕ) (k : ℕ) → Stage t calls₀ calls counts k
+      → leastFrom (isKey counts 0) (callCount t) 0 ≡ nextCall (callCount t) (precedes (shapeOf t)) (among (take k calls))
   unfolding nextCall
   stage-next calls₀ calls counts k g =
-      lowest-same (isKey counts 0) (ready N (precedes s) (among (take k calls))) N
-      (λ c h. ap (λ n. eqb n 0) (g .waiting .each c) ∙ sym (ready-waits s (ok .wired) (among (take k calls)) c))
+      lowest-same (isKey counts 0) (ready (callCount t) (precedes (shapeOf t)) (among (take k calls))) (callCount t)
+      (λ c h. ap (λ n. eqb n 0) (g .waiting .each c) ∙ sym (ready-waits (shapeOf t) (ok .wired) (among (take k calls)) c))
 
-  module _ (calls₀ calls counts : List ℕ) (k c : ℕ) (g : Stage calls₀ calls counts k)
-      (e : c ≡ nextCall N (precedes s) (among (take k calls))) (h : c < N) where
+  module _ (calls₀ calls counts : List ℕ) (k c : ℕ) (g : Stage t calls₀ calls counts k)
+      (e : c ≡ nextCall (callCount t) (precedes (shapeOf t)) (among (take k calls))) (h : c < (callCount t)) where
     -- the call placed is new, and its predecessors are placed
     new : T (not (among (take k calls) c))
-    new = rw e (next-is N (precedes s) (among (take k calls)) .is (rw (← e) h) .0)
+    new = rw e (next-is (callCount t) (precedes (shapeOf t)) (among (take k calls)) .is (rw (← e) h) .0)
 
-    after : (a : ℕ) → T (precedes s a c) → T (among (take k calls) a)
+    after : (a : ℕ) → T (precedes (shapeOf t) a c) → T (among (take k calls) a)
     after a p =
-        next-is N (precedes s) (among (take k calls)) .is (rw (← e) h) .1 a (calls-only s a c p .0) (rw (← e) p)
+        next-is (callCount t) (precedes (shapeOf t)) (among (take k calls)) .is (rw (← e) h) .1 a (calls-only (shapeOf t) a c p .0) (rw (← e) p)
 
     -- it gives nothing to a call that is placed
-    to-placed : (x : ℕ) → T (add c (among (take k calls)) x) → into s (only c) x ≡ 0
+    to-placed : (x : ℕ) → T (add c (among (take k calls)) x) → into (shapeOf t) (only c) x ≡ 0
     to-placed x z =
-        none-into s (only c) x
+        none-into (shapeOf t) (only c) x
         (λ a p q.
-        let r : T (precedes s c x) = subst (λ b. T (precedes s b x)) (eqb→eq a c q) (precedes-iff s (ok .wired) a x .0 p) in
+        let r : T (precedes (shapeOf t) c x) = subst (λ b. T (precedes (shapeOf t) b x)) (eqb→eq a c q) (precedes-iff (shapeOf t) (ok .wired) a x .0 p) in
         elim (add-cases c (among (take k calls)) x z) [
-          | inl y ↦ clash (precedes s c c) (subst (λ b. T (precedes s c b)) y r) (not-self s c)
+          | inl y ↦ clash (precedes (shapeOf t) c c) (subst (λ b. T (precedes (shapeOf t) c b)) y r) (not-self (shapeOf t) c)
           | inr y ↦ clash (among (take k calls) c) (g .closed c x y r) new
         ])
 
@@ -167,51 +180,51 @@ module _ (t : List ℕ) (ok : Sound t) where
     stage-long = length-set counts c 255 ∙ g .waiting .long
 
     -- the counts with the call marked
-    marked : (x : ℕ) → getD (set counts c 255) x 0 ≡ waits s (add c (among (take k calls))) x + into s (only c) x
+    marked : (x : ℕ) → getD (set counts c 255) x 0 ≡ waits (shapeOf t) (add c (among (take k calls))) x + into (shapeOf t) (only c) x
     marked x = elim (ℕ-discrete x c) [
       | yes y ↦
           rw (y, getD-set-same counts c 255 0 (omega (arith, g .waiting .long, few-calls t ok)))
           (omega
           (arith,
-          done-waits s (ok .wired) (add c (among (take k calls))) c (add-self c (among (take k calls))),
+          done-waits (shapeOf t) (ok .wired) (add c (among (take k calls))) c (add-self c (among (take k calls))),
           to-placed c (add-self c (among (take k calls)))))
       | no ne ↦ rw (getD-set-other counts c x 255 0 ne) (g .waiting .each x ∙ other ne)
     ]
       where
         other : x ≢ c
-            → waits s (among (take k calls)) x ≡ waits s (add c (among (take k calls))) x + into s (only c) x
+            → waits (shapeOf t) (among (take k calls)) x ≡ waits (shapeOf t) (add c (among (take k calls))) x + into (shapeOf t) (only c) x
         other ne = elim (either (among (take k calls) x)) [
           | inl z ↦
               (let z′ = add-more c (among (take k calls)) x z in
               omega
               (arith,
-              done-waits s (ok .wired) (among (take k calls)) x z,
-              done-waits s (ok .wired) (add c (among (take k calls))) x z′,
+              done-waits (shapeOf t) (ok .wired) (among (take k calls)) x z,
+              done-waits (shapeOf t) (ok .wired) (add c (among (take k calls))) x z′,
               to-placed x z′))
           | inr z ↦
               omega
               (arith,
-              left-waits s (ok .wired) (among (take k calls)) x z,
-              left-waits s (ok .wired) (add c (among (take k calls))) x
+              left-waits (shapeOf t) (ok .wired) (among (take k calls)) x z,
+              left-waits (shapeOf t) (ok .wired) (add c (among (take k calls))) x
               (rw (add-other c (among (take k calls)) x ne) z),
-              into-part s (among (take k calls)) c x new)
+              into-part (shapeOf t) (among (take k calls)) c x new)
         ]
 
-    pub stage-room : (x : ℕ) → into s (only c) x ≤ getD (set counts c 255) x 0
+    pub stage-room : (x : ℕ) → into (shapeOf t) (only c) x ≤ getD (set counts c 255) x 0
     stage-room x = omega (arith, marked x)
 
-    pub stage-on : (counts′ : List ℕ) → N ≤ length calls₀ → k < N → Less (into s (only c)) (set counts c 255) counts′
-        → Stage calls₀ (set calls k c) counts′ (k + 1)
+    pub stage-on : (counts′ : List ℕ) → (callCount t) ≤ length calls₀ → k < (callCount t) → Less (into (shapeOf t) (only c)) (set counts c 255) counts′
+        → Stage t calls₀ (set calls k c) counts′ (k + 1)
     stage-on counts′ room hk l =
         let fits : k < length calls = omega (arith, g .front .long) in
         let m = placed-more calls k c fits in
         record {
           most = omega arith;
-          front = rw m (fronting-on (placedOf t) (sort N (precedes s) (N - (k + 1)) (add c (among (take k calls))))
+          front = rw m (fronting-on (placedOf t) (sort (callCount t) (precedes (shapeOf t)) ((callCount t) - (k + 1)) (add c (among (take k calls))))
               calls₀ calls k c fits (subst (λ r. Fronting (placedOf t) r calls₀ calls k) step (g .front)));
           waiting = record {
             long = l .long ∙ stage-long;
-            each = λ x. omega (arith, l .less x, marked x, ap (λ d. waits s d x) m);
+            each = λ x. omega (arith, l .less x, marked x, ap (λ d. waits (shapeOf t) d x) m);
           };
           known = λ x z. elim (add-cases c (among (take k calls)) x (subst (λ d. T (d x)) m z)) [
             | inl y ↦ rw y h
@@ -220,27 +233,50 @@ module _ (t : List ℕ) (ok : Sound t) where
           closed = λ a x z p. subst (λ d. T (d a)) (sym m)
               (add-more c (among (take k calls)) a
               (elim (add-cases c (among (take k calls)) x (subst (λ d. T (d x)) m z)) [
-                | inl y ↦ after a (subst (λ b. T (precedes s a b)) y p)
+                | inl y ↦ after a (subst (λ b. T (precedes (shapeOf t) a b)) y p)
                 | inr y ↦ g .closed a x y p
               ]));
         }
       where
-        step : sort N (precedes s) (N - k) (among (take k calls))
-            ≡ c ∷ sort N (precedes s) (N - (k + 1)) (add c (among (take k calls)))
+        step : sort (callCount t) (precedes (shapeOf t)) ((callCount t) - k) (among (take k calls))
+            ≡ c ∷ sort (callCount t) (precedes (shapeOf t)) ((callCount t) - (k + 1)) (add c (among (take k calls)))
         step =
-            let n : N - k ≡ suc (N - (k + 1)) = omega arith in
-            rw (n, e) (sort-step N (precedes s) (N - (k + 1)) (among (take k calls)) (rw (← e) h))
+            let n : (callCount t) - k ≡ suc ((callCount t) - (k + 1)) = omega arith in
+            rw (n, e) (sort-step (callCount t) (precedes (shapeOf t)) ((callCount t) - (k + 1)) (among (take k calls)) (rw (← e) h))
 
   -- ---- where the loop ends
-  module _ (calls₀ calls counts : List ℕ) (k : ℕ) (g : Stage calls₀ calls counts k) where
-    pub stage-stops : N ≡ nextCall N (precedes s) (among (take k calls))
+  module _ (calls₀ calls counts : List ℕ) (k : ℕ) (g : Stage t calls₀ calls counts k) where
+    pub stage-stops : (callCount t) ≡ nextCall (callCount t) (precedes (shapeOf t)) (among (take k calls))
         → (k ≡ length (placedOf t)) × (calls ≡ fronted (placedOf t) calls₀)
     stage-stops e =
-        fronting-ends (placedOf t) (sort N (precedes s) (N - k) (among (take k calls))) calls₀ calls k (g .front)
-        (sort-stop N (precedes s) (N - k) (among (take k calls)) (omega arith))
+        fronting-ends (placedOf t) (sort (callCount t) (precedes (shapeOf t)) ((callCount t) - k) (among (take k calls))) calls₀ calls k (g .front)
+        (sort-stop (callCount t) (precedes (shapeOf t)) ((callCount t) - k) (among (take k calls)) (omega arith))
 
-    pub stage-ends : N ≤ k → (k ≡ length (placedOf t)) × (calls ≡ fronted (placedOf t) calls₀)
+    pub stage-ends : (callCount t) ≤ k → (k ≡ length (placedOf t)) × (calls ≡ fronted (placedOf t) calls₀)
     stage-ends h =
-        let n : N - k ≡ 0 = omega arith in
-        fronting-ends (placedOf t) (sort N (precedes s) (N - k) (among (take k calls))) calls₀ calls k (g .front)
-        (rw n (sort-none N (precedes s) (among (take k calls))))
+        let n : (callCount t) - k ≡ 0 = omega arith in
+        fronting-ends (placedOf t) (sort (callCount t) (precedes (shapeOf t)) ((callCount t) - k) (among (take k calls))) calls₀ calls k (g .front)
+        (rw n (sort-none (callCount t) (precedes (shapeOf t)) (among (take k calls))))
+
+-- ---- the search for the lowest 0, which stands before the one behind the last call
+pub zero-found : (counts : List ℕ) (n c : ℕ) → c ≤ n → ((k : ℕ) → k < c → T (not (isKey counts 0 k)))
+    → getD counts c 0 ≡ 0 → c ≡ leastFrom (isKey counts 0) n 0
+zero-found counts n c h b e =
+    lowest-one (isKey counts 0) n c (leastFrom (isKey counts 0) n 0)
+    (record { high = h; passes = λ g. eq-true (getD counts c 0) 0 e; below = b }) (lowest-is (isKey counts 0) n)
+
+pub zero-behind : (counts : List ℕ) (n c : ℕ) → getD counts n 0 ≡ 0 → c ≤ n → (getD counts c 0 ≡ 0 → ⊥) → c < n
+zero-behind counts n c z h e = elim (ℕ-discrete c n) [ yes p ↦ absurd (e (rw p z)) | no p ↦ omega arith ]
+
+-- ---- the call that the search chooses
+module _ (t : List ℕ) (ok : Sound t) (calls₀ calls counts : List ℕ) (k : ℕ) (g : Stage t calls₀ calls counts k)
+    (n c : ℕ) (e : n ≡ callCount t) (f : c ≡ leastFrom (isKey counts 0) n 0) where
+  pub chosen : c ≡ nextCall (callCount t) (precedes (shapeOf t)) (among (take k calls))
+  chosen = f ∙ rw e (stage-next t ok calls₀ calls counts k g)
+
+  pub chosen-call : (c ≡ n → ⊥) → c < callCount t
+  chosen-call ne =
+      omega (arith, chosen, next-is (callCount t) (precedes (shapeOf t)) (among (take k calls)) .high, unequal)
+    where
+      unequal : c ≢ n
+      unequal = ne
