@@ -1,0 +1,45 @@
+use borrow.Author.Needs.{needs}
+use Rattle.sorter.proofs.back.keeps_step.Statement.{statement}
+use Rattle.sorter.proofs.back.keeps_step.Tie as tie
+use Rattle.sorter.proofs.back.keeps_step.Reads as reads
+use Rattle.sorter.proofs.back.keeps_step.Lts as lts
+
+-- src/back.rt:36:8
+shared-slice-read-if1 : tie.Need-shared-slice-read-if1
+shared-slice-read-if1 c = search needs
+
+-- src/back.rt:37:9
+returns : tie.Need-returns
+returns c = ?
+
+-- src/back.rt:39:8
+shared-slice-read-if2 : tie.Need-shared-slice-read-if2
+shared-slice-read-if2 c = search needs
+
+-- src/back.rt:40:9
+returns-2 : tie.Need-returns-2
+returns-2 c = ?
+
+-- src/back.rt:42:11
+add-result : tie.Need-add-result
+add-result c = search needs
+
+-- src/back.rt:42:5
+element-copy-out-result : tie.Need-element-copy-out-result
+element-copy-out-result c = search needs
+
+-- src/back.rt:29:1
+returns-3 : tie.Need-returns-3
+returns-3 c = ?
+
+pub keeps-step-spec : {M : Type 1} → statement M
+keeps-step-spec =
+    tie.close
+    (tie.spec
+    shared-slice-read-if1
+    returns
+    shared-slice-read-if2
+    returns-2
+    add-result
+    element-copy-out-result
+    returns-3)

@@ -1,0 +1,70 @@
+use borrow.Author.Needs.{needs}
+use Rattle.sorter.proofs.back.lower_feeding.Statement.{statement}
+use Rattle.sorter.proofs.back.lower_feeding.Tie as tie
+use Rattle.sorter.proofs.back.lower_feeding.Reads as reads
+use Rattle.sorter.proofs.back.lower_feeding.Lts as lts
+
+-- src/back.rt:71:14
+mul-if1 : tie.Need-mul-if1
+mul-if1 c = search needs
+
+-- src/back.rt:71:14
+add-if1 : tie.Need-add-if1
+add-if1 c = search needs
+
+-- src/back.rt:71:8
+shared-slice-read-if1 : tie.Need-shared-slice-read-if1
+shared-slice-read-if1 c = search needs
+
+-- src/back.rt:72:9
+returns : tie.Need-returns
+returns c = ?
+
+-- src/back.rt:74:23
+mul-input : tie.Need-mul-input
+mul-input c = search needs
+
+-- src/back.rt:74:17
+shared-slice-read-input : tie.Need-shared-slice-read-input
+shared-slice-read-input c = search needs
+
+-- src/back.rt:74:17
+cast-input : tie.Need-cast-input
+cast-input c = ?
+
+-- src/back.rt:76:9
+returns-2 : tie.Need-returns-2
+returns-2 c = ?
+
+-- src/back.rt:78:14
+add-if3 : tie.Need-add-if3
+add-if3 c = search needs
+
+-- src/back.rt:78:8
+element-copy-out-if3 : tie.Need-element-copy-out-if3
+element-copy-out-if3 c = search needs
+
+-- src/back.rt:79:9
+returns-3 : tie.Need-returns-3
+returns-3 c = ?
+
+-- src/back.rt:66:1
+returns-4 : tie.Need-returns-4
+returns-4 c = ?
+
+pub lower-feeding-spec : {M : Type 1} → statement M
+lower-feeding-spec =
+    tie.close
+    (tie.spec
+    mul-if1
+    add-if1
+    shared-slice-read-if1
+    returns
+    mul-input
+    shared-slice-read-input
+    cast-input
+    returns-2
+    add-if3
+    element-copy-out-if3
+    returns-3
+    returns-4)

@@ -1,0 +1,2 @@
+// The order of a table's calls, or the cycle shown.
+mod back;
