@@ -1,13 +1,13 @@
 -- The lowest remaining direct predecessor of each kind of call.
 use mathlib.Core.Path.{_≡_, refl, sym, ap, subst, _∙_}
 use mathlib.Core.Logic.{inl, inr}
-use mathlib.Core.Bool.{Bool, true, false, not, _&&_, cond}
+use mathlib.Core.Bool.{Bool, true, false, not, _&&_, cond, and-false}
 use mathlib.Core.List.{List}
 use Prim.Native.Nat.{ℕ, zero, suc, _+_, _≤_, _<_}
 use native.Mathlib.Omega.{arith}
 use native.Mathlib.Decide.{ℕ-discrete, decLt, decLe}
 use lib.Dec.{T, eqb, ltb, eqb→eq, ltb→lt, lt→ltb, not-T}
-use lib.ListN.{getD}
+use lib.ListN.{length, getD}
 use Rattle.search.specs.Truth.{
   T-and,
   and-T,
@@ -41,6 +41,21 @@ use Rattle.calls.specs.Neighbours.{
 }
 use Rattle.orders.specs.Sort.{lacks}
 use Rattle.orders.specs.Walk.{lowestBefore}
+use Rattle.table.specs.Packed.{
+  units,
+  outputs,
+  inputs,
+  feeds,
+  inputOwners,
+  kinds,
+  pairs,
+  pairInput,
+  pairOutput,
+  shapeOf,
+}
+use Rattle.table.specs.Sound.{Sound}
+use Rattle.table.specs.Layout.{long-input-owners}
+use Rattle.placing.specs.Less.{isKey, areKeys}
 use Rattle.sorter.specs.Marks.{marked, keepsStep, keepsGet, lowerFeeding, sourceLeft}
 
 module _ (s : Shape) (ok : Wired s) (marks : List ℕ) where
@@ -147,7 +162,7 @@ module _ (s : Shape) (ok : Wired s) (marks : List ℕ) where
   ]
 
 -- ---- the lowest of the feeding inputs, feed by feed
-module _ (s : Shape) (ok : Wired s) (y : ℕ) (marks : List ℕ) where
+module _ (s : Shape) (y : ℕ) (marks : List ℕ) where
   -- the lowest among the first k feeds
   pub record Best (k best : ℕ) : Type 0 where
     pub high : best ≤ s .inputs
@@ -229,3 +244,90 @@ module _ (s : Shape) (ok : Wired s) (y : ℕ) (marks : List ℕ) where
             omega (arith, b .below k hk q (subst (λ z. T (not (marked marks (setNo s z)))) (sym p) m)));
       })
       (lowest-is (keepsGet s y marks) (s .inputs))
+
+-- ---- what the tests of the code answer, return by return
+
+not-twice : (b : Bool) → b ≡ not (not b)
+not-twice true = refl
+not-twice false = refl
+
+module _ (owners kinds : List ℕ) (unit x : ℕ) (m : Bool) where
+  pub keeps-other : (getD owners x 0 ≡ unit → ⊥) → false ≡ (areKeys kinds 1 owners unit x && m)
+  keeps-other n = rw (is-false (isKey owners unit x) (eq-false _ _ n), and-false (isKey kinds 1 x))
+
+  pub keeps-delayed : (getD kinds x 0 ≡ 1 → ⊥) → false ≡ (areKeys kinds 1 owners unit x && m)
+  keeps-delayed n = rw (is-false (isKey kinds 1 x) (eq-false _ _ n))
+
+  pub keeps-mark : (b : Bool) → getD owners x 0 ≡ unit → getD kinds x 0 ≡ 1 → m ≡ not (not b)
+      → b ≡ (areKeys kinds 1 owners unit x && m)
+  keeps-mark b p q e =
+      rw (is-true (isKey owners unit x) (eq-true _ _ p), is-true (isKey kinds 1 x) (eq-true _ _ q), e)
+      (not-twice b)
+
+module _ (pairs : List ℕ) (k y first : ℕ) (marks : List ℕ) (best : ℕ) where
+  pub feeding-other : (pairOutput pairs k ≡ y → ⊥) → best ≡ lowerFeeding pairs k y first marks best
+  unfolding lowerFeeding
+  feeding-other n = rw (is-false (eqb (pairOutput pairs k) y) (eq-false _ _ n))
+
+  pub feeding-higher : pairOutput pairs k ≡ y → best ≤ pairInput pairs k
+      → best ≡ lowerFeeding pairs k y first marks best
+  unfolding lowerFeeding
+  feeding-higher e h = rw (is-true (eqb (pairOutput pairs k) y) (eq-true _ _ e), lt-false (pairInput pairs k) best h)
+
+  pub feeding-done : pairOutput pairs k ≡ y → (getD marks (first + pairInput pairs k) 0 ≡ 0 → ⊥)
+      → best ≡ lowerFeeding pairs k y first marks best
+  unfolding lowerFeeding
+  feeding-done e n =
+      rw
+      (is-true (eqb (pairOutput pairs k) y) (eq-true _ _ e),
+      is-false (eqb (getD marks (first + pairInput pairs k) 0) 0) (eq-false _ _ n),
+      and-false (ltb (pairInput pairs k) best))
+
+  pub feeding-lower : pairOutput pairs k ≡ y → pairInput pairs k < best
+      → getD marks (first + pairInput pairs k) 0 ≡ 0 → pairInput pairs k ≡ lowerFeeding pairs k y first marks best
+  unfolding lowerFeeding
+  feeding-lower e h z =
+      rw
+      (is-true (eqb (pairOutput pairs k) y) (eq-true _ _ e),
+      lt-true (pairInput pairs k) best h,
+      is-true (eqb (getD marks (first + pairInput pairs k) 0) 0) (eq-true _ _ z))
+
+module _ (s : Shape) (marks : List ℕ) (x : ℕ) where
+  pub source-stays : getD marks (getNo s (s .source x)) 0 ≡ 0 → getNo s (s .source x) ≡ sourceLeft s marks x
+  unfolding sourceLeft
+  source-stays z = rw (is-true (eqb (getD marks (getNo s (s .source x)) 0) 0) (eq-true _ _ z))
+
+  pub source-done : (getD marks (getNo s (s .source x)) 0 ≡ 0 → ⊥) → total s ≡ sourceLeft s marks x
+  unfolding sourceLeft
+  source-done n = rw (is-false (eqb (getD marks (getNo s (s .source x)) 0) 0) (eq-false _ _ n))
+
+-- a mark that is 0, or not
+pub unmarked : (marks : List ℕ) (c : ℕ) → getD marks c 0 ≡ 0 → T (not (marked marks c))
+unmarked marks c e = rw (is-true (eqb (getD marks c 0) 0) (eq-true _ _ e)) tt
+
+pub is-marked : (marks : List ℕ) (c : ℕ) → (getD marks c 0 ≡ 0 → ⊥) → T (marked marks c)
+is-marked marks c n = rw (is-false (eqb (getD marks c 0) 0) (eq-false _ _ n)) tt
+
+-- ---- the loops over a sound table's parts
+module _ (t : List ℕ) (ok : Sound t) where
+  pub step-ends : (u : ℕ) (marks : List ℕ) (first : ℕ) (owners kinds′ : List ℕ) (x : ℕ) → u < units t
+      → first ≡ units t + outputs t → owners ≡ inputOwners t → kinds′ ≡ kinds t
+      → x ≡ leastFrom (λ k. areKeys kinds′ 1 owners u k && not (marked marks (first + k))) (length owners) 0
+      → first + x ≡ lowestBefore (total (shapeOf t)) (precedes (shapeOf t)) (marked marks) u
+  unfolding keepsStep hasKind
+  step-ends u marks first owners kinds′ x h ef eo ek e =
+      rw ef
+      (step-lowest (shapeOf t) (ok .wired) marks u x h (e ∙ rw (ef, eo, ek, long-input-owners t (ok .long))))
+
+  pub best-next : (y : ℕ) (marks : List ℕ) (first : ℕ) (pairs′ : List ℕ) (k best r : ℕ)
+      → first ≡ units t + outputs t → pairs′ ≡ pairs t → k < feeds t
+      → r ≡ lowerFeeding pairs′ k y first marks best → Best (shapeOf t) y marks k best
+      → Best (shapeOf t) y marks (k + 1) r
+  unfolding lowerFeeding
+  best-next y marks first pairs′ k best r ef ep h e b =
+      rw (e, ef, ep) (best-on (shapeOf t) y marks k best h b)
+
+  pub best-all : (y : ℕ) (marks : List ℕ) (k best : ℕ) → k ≡ feeds t → Best (shapeOf t) y marks k best
+      → best ≡ leastFrom (keepsGet (shapeOf t) y marks) (inputs t) 0
+  best-all y marks k best e b =
+      best-ends (shapeOf t) y marks best (subst (λ n. Best (shapeOf t) y marks n best) e b)

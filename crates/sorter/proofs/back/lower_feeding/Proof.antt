@@ -3,6 +3,10 @@ use Rattle.sorter.proofs.back.lower_feeding.Statement.{statement}
 use Rattle.sorter.proofs.back.lower_feeding.Tie as tie
 use Rattle.sorter.proofs.back.lower_feeding.Reads as reads
 use Rattle.sorter.proofs.back.lower_feeding.Lts as lts
+use Prim.Native.Nat.{_+_, _*_, _≤_, _<_}
+use mathlib.Core.Path.{_≡_, refl}
+use native.Mathlib.Omega.{arith}
+use Rattle.sorter.proofs.Before.{feeding-other, feeding-higher, feeding-done, feeding-lower}
 
 -- src/back.rt:71:14
 mul-if1 : tie.Need-mul-if1
@@ -18,7 +22,7 @@ shared-slice-read-if1 c = search needs
 
 -- src/back.rt:72:9
 returns : tie.Need-returns
-returns c = ?
+returns c = let a = c .before .before .args in feeding-other (a .pairs .now) (a .k) (a .output) (a .first) (a .marks .now) (a .best) (c .if1 .taken)
 
 -- src/back.rt:74:23
 mul-input : tie.Need-mul-input
@@ -30,11 +34,11 @@ shared-slice-read-input c = search needs
 
 -- src/back.rt:74:17
 cast-input : tie.Need-cast-input
-cast-input c = ?
+cast-input c = record { fits = omega (arith, c .shared-slice-known2 .given (2 * c .before .before .before .args .k)) }
 
 -- src/back.rt:76:9
 returns-2 : tie.Need-returns-2
-returns-2 c = ?
+returns-2 c = let a = c .before .before .before .before .args in feeding-higher (a .pairs .now) (a .k) (a .output) (a .first) (a .marks .now) (a .best) (c .before .before .if1 .left) (c .if2 .taken)
 
 -- src/back.rt:78:14
 add-if3 : tie.Need-add-if3
@@ -46,11 +50,11 @@ element-copy-out-if3 c = search needs
 
 -- src/back.rt:79:9
 returns-3 : tie.Need-returns-3
-returns-3 c = ?
+returns-3 c = let a = c .before .before .before .before .before .before .args in feeding-done (a .pairs .now) (a .k) (a .output) (a .first) (a .marks .now) (a .best) (c .before .before .before .before .if1 .left) (c .if3 .taken)
 
 -- src/back.rt:66:1
 returns-4 : tie.Need-returns-4
-returns-4 c = ?
+returns-4 c = let a = c .before .before .before .before .before .before .args in feeding-lower (a .pairs .now) (a .k) (a .output) (a .first) (a .marks .now) (a .best) (c .before .before .before .before .if1 .left) (c .before .before .if2 .left) (c .if3 .left)
 
 pub lower-feeding-spec : {M : Type 1} → statement M
 lower-feeding-spec =
