@@ -41,7 +41,7 @@ use Rattle.placing.proofs.Into.{into-part, into-le, into-none, none-int
 
 -- ---- the calls of a list, one more at its end
 
-among-end : (l : List ℕ) (c : ℕ) → among (l ++ (c ∷ [])) ≡ add c (among l)
+pub among-end : (l : List ℕ) (c : ℕ) → among (l ++ (c ∷ [])) ≡ add c (among l)
 among-end l c = fun-ext (λ x. at l x)
   where
     swap : (p q r : Bool) → (p || (q || r)) ≡ (q || (p || r))

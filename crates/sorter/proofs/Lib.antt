@@ -1,1 +1,3 @@
 pub mod Before
+pub mod Trails
+pub mod Turning

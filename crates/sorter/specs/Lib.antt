@@ -1,3 +1,4 @@
 pub mod Marks
+pub mod Trail
 pub mod Ordering
 pub mod Demand
