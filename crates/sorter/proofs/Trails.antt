@@ -12,6 +12,7 @@ use lib.Seq.{take-suc, take-all, drop-cons, drop-set-lt, getD-set-same, getD-set
 use Rattle.search.specs.Truth.{is-true, is-false, eq-true, eq-false, lt-true, lt-false}
 use Rattle.search.specs.Sets.{none, add, add-self, add-other}
 use Rattle.search.specs.Count.{count, count-le, count-none, count-add}
+use Rattle.search.specs.Least.{leastFrom}
 use Rattle.table.specs.Packed.{shapeOf}
 use Rattle.calls.specs.Precedence.{precedes}
 use Rattle.orders.specs.Walk.{among, upto, lowestBefore, lowestLeft, walk, met}
@@ -144,3 +145,13 @@ module _ (t : List ℕ) (done : ℕ → Bool) where
       is = rw (lt-false call (callCount t) h)
           (g .same ∙ walk-lost (callCount t) (precedes (shapeOf t)) done (g .fuel) (drop at path) call h);
     }
+
+pub twice : (b : Bool) → T b → T (not (not b))
+twice true t = tt
+twice false t = t
+
+-- the walk begins at the lowest call that is not marked
+pub left-is : (t marks : List ℕ) (n c : ℕ) → n ≡ callCount t → c ≡ leastFrom (λ a. not (marked marks a)) n 0
+    → c ≡ lowestLeft (callCount t) (precedes (shapeOf t)) (marked marks)
+unfolding lowestLeft
+left-is t marks n c e f = f ∙ ap (λ k. leastFrom (λ a. not (marked marks a)) k 0) e

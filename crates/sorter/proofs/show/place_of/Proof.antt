@@ -2,40 +2,51 @@ use Rattle.sorter.proofs.show.place_of.Statement.{statement}
 use Rattle.sorter.proofs.show.place_of.Tie as tie
 use Rattle.sorter.proofs.show.place_of.Reads as reads
 use Rattle.sorter.proofs.show.place_of.Lts as lts
+use borrow.Author.Needs.{needs}
+use Prim.Native.Nat.{ℕ, _+_, _-_, _≤_, _<_}
+use mathlib.Core.Path.{_≡_}
+use mathlib.Core.Bool.{not}
+use native.Mathlib.Omega.{arith}
+use lib.Dec.{T}
+use lib.ListN.{length}
+use borrow.Author.Count.{below-more}
+use Rattle.search.specs.Truth.{eq-true, eq-false}
+use Rattle.search.specs.Least.{found, not-found}
+use Rattle.placing.specs.Less.{isKey}
 
 abbrev Inv-loop : tie.InvT-loop
-Inv-loop bytes byte i₀ i = ?
+Inv-loop bytes byte i₀ i = (i ≤ length bytes) × ((k : ℕ) → k < i → T (not (isKey bytes byte k)))
 
 abbrev μ-loop : tie.MeasureT-loop
-μ-loop bytes byte i₀ i = ?
+μ-loop bytes byte i₀ i = length bytes - i
 
 -- src/show.rt:15:5
 loop-holds : tie.Need-loop-holds Inv-loop μ-loop
-loop-holds c = ?
+loop-holds c = (search needs, λ k h. absurd (omega arith))
 
 -- src/show.rt:16:12
 shared-slice-read-if1 : tie.Need-shared-slice-read-if1 Inv-loop μ-loop
-shared-slice-read-if1 c = ?
+shared-slice-read-if1 c = search needs
 
 -- src/show.rt:17:13
 returns : tie.Need-returns Inv-loop μ-loop
-returns c = ?
+returns c = found (isKey (c .before .before .before .before .args .bytes .now) (c .before .before .before .before .args .byte)) (length (c .before .before .before .before .args .bytes .now)) (c .before .before .before .loop .i) (c .before .before .loop-test .taken) (c .before .before .before .loop .inv .1) (eq-true _ _ (c .if1 .taken))
 
 -- src/show.rt:19:9
 add-i : tie.Need-add-i Inv-loop μ-loop
-add-i c = ?
+add-i c = search needs
 
 -- src/show.rt:15:5
 loop-less : tie.Need-loop-less Inv-loop μ-loop
-loop-less c = ?
+loop-less c = search needs
 
 -- src/show.rt:15:5
 loop-again : tie.Need-loop-again Inv-loop μ-loop
-loop-again c = ?
+loop-again c = (search needs, below-more (λ k. T (not (isKey (c .before .before .before .before .args .bytes .now) (c .before .before .before .before .args .byte) k))) (c .before .before .before .loop .i) (c .before .before .before .loop .inv .1) (eq-false _ _ (c .if1 .left)))
 
 -- src/show.rt:11:1
 returns-2 : tie.Need-returns-2 Inv-loop μ-loop
-returns-2 c = ?
+returns-2 c = not-found (isKey (c .before .before .args .bytes .now) (c .before .before .args .byte)) (length (c .before .before .args .bytes .now)) (c .before .loop .i) (c .loop-test .left) (c .before .loop .inv .0) (c .before .loop .inv .1)
 
 pub place-of-spec : {M : Type 1} → statement M
 place-of-spec =
