@@ -16,6 +16,7 @@ use Rattle.search.specs.Least.{leastFrom}
 use Rattle.table.specs.Packed.{shapeOf}
 use Rattle.calls.specs.Precedence.{precedes}
 use Rattle.orders.specs.Walk.{among, upto, lowestBefore, lowestLeft, walk, met}
+use Rattle.orders.specs.Remains.{cons-calls}
 use Rattle.orders.specs.Walked.{walk-met, walk-on, walk-lost}
 use Rattle.placing.specs.Placing.{callCount}
 use Rattle.placing.proofs.Stage.{among-end}
@@ -58,6 +59,7 @@ module _ (t : List ℕ) (done : ℕ → Bool) where
     pub place : at ≤ 224
     pub shown : marked seen ≡ among (drop at path)
     pub many : count (among (drop at path)) (callCount t) + at ≡ 224
+    pub calls : (i : ℕ) → i < length (drop at path) → getD (drop at path) i 0 < callCount t
     pub fuel : ℕ
     pub left : fuel + 224 ≡ suc (callCount t) + at
     pub same : met (callCount t) (precedes (shapeOf t)) done
@@ -75,6 +77,7 @@ module _ (t : List ℕ) (done : ℕ → Bool) where
         place = omega arith;
         shown = marked-none seen z ∙ ap among (sym n);
         many = rw n (omega (arith, count-none (among []) (callCount t) (λ i h. tt)));
+        calls = rw n (λ i h. absurd (omega arith));
         fuel = suc (callCount t);
         left = refl;
         same = rw (n, e);
@@ -109,6 +112,7 @@ module _ (t : List ℕ) (done : ℕ → Bool) where
           place = omega (arith, g .place);
           shown = marked-more seen call (omega (arith, g .wide)) ∙ ap (add call) (g .shown) ∙ ap among (sym d);
           many = rw d (omega (arith, count-add (among (drop at path)) call (callCount t) h new, g .many));
+          calls = rw d (cons-calls (callCount t) call (drop at path) h (g .calls));
           fuel = g .fuel - 1;
           left = omega (arith, g .left, more);
           same = rw (d, e)
@@ -130,6 +134,8 @@ module _ (t : List ℕ) (done : ℕ → Bool) where
         record {
           long = g .long;
           place = g .place;
+          few = omega (arith, g .many, count-le (among (drop at path)) (callCount t));
+          calls = g .calls;
           again = λ z. old;
           is = rw (lt-true call (callCount t) h)
               (g .same
@@ -141,6 +147,8 @@ module _ (t : List ℕ) (done : ℕ → Bool) where
     trail-lost h = record {
       long = g .long;
       place = g .place;
+      few = omega (arith, g .many, count-le (among (drop at path)) (callCount t));
+      calls = g .calls;
       again = λ z. absurd (omega arith);
       is = rw (lt-false call (callCount t) h)
           (g .same ∙ walk-lost (callCount t) (precedes (shapeOf t)) done (g .fuel) (drop at path) call h);

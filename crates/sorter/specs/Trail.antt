@@ -2,7 +2,7 @@
 use mathlib.Core.Path.{_≡_}
 use mathlib.Core.Bool.{Bool, cond}
 use mathlib.Core.List.{List, []}
-use Prim.Native.Nat.{ℕ, _≤_, _<_}
+use Prim.Native.Nat.{ℕ, _+_, _≤_, _<_}
 use lib.Dec.{T, ltb}
 use lib.ListN.{length, getD, drop}
 use Rattle.table.specs.Packed.{shapeOf}
@@ -14,6 +14,8 @@ use Rattle.placing.specs.Placing.{callCount}
 pub record Walked (t : List ℕ) (done : ℕ → Bool) (path : List ℕ) (at call : ℕ) : Type 0 where
   pub long : length path ≡ 224
   pub place : at ≤ 224
+  pub few : 224 ≤ callCount t + at
+  pub calls : (i : ℕ) → i < length (drop at path) → getD (drop at path) i 0 < callCount t
   pub again : call < callCount t → T (among (drop at path) call)
   pub is : met (callCount t) (precedes (shapeOf t)) done
       ≡ cond (ltb call (callCount t)) (upto call (drop at path)) []

@@ -3,91 +3,65 @@ use Rattle.sorter.proofs.order.show_cycle.Statement.{statement}
 use Rattle.sorter.proofs.order.show_cycle.Tie as tie
 use Rattle.sorter.proofs.order.show_cycle.Reads as reads
 use Rattle.sorter.proofs.order.show_cycle.Lts as lts
-use Rattle.sorter.proofs.show.lowest_of.Reads as lowest-of-reads
-use Rattle.sorter.proofs.show.place_of.Reads as place-of-reads
-use Rattle.sorter.proofs.show.write_turned.Reads as write-turned-reads
+use Rattle.sorter.proofs.order.write_met.Reads as write-met-reads
 use Rattle.sorter.proofs.walk.mark.Reads as mark-reads
 use Rattle.sorter.proofs.walk.walk_back.Reads as walk-back-reads
+use Prim.Native.Nat.{ℕ, _+_, _-_, _≤_, _<_}
+use mathlib.Core.Path.{_≡_, refl, sym, ap, subst, _∙_}
+use mathlib.Core.List.{List}
+use native.Mathlib.Omega.{arith}
+use lib.Dec.{T}
+use lib.ListN.{length, getD, take, drop}
+use Rattle.search.specs.Front.{fronted}
+use Rattle.table.specs.Checked.{few-calls}
+use Rattle.orders.specs.Walk.{among, upto}
+use Rattle.orders.specs.Turn.{turn, lowestPlace}
+use Rattle.placing.proofs.Stage.{zeros}
+use Rattle.sorter.proofs.Showing.{placed-few, path-rest, path-few, stops-short, meets-again}
 
--- src/order.rt:36:5
+-- src/order.rt:50:5
 mark-requires : tie.Need-mark-requires
-mark-requires c κs = ?
+mark-requires c κs = (refl, (zeros 224, placed-few (c .before .before .before .before .args .table .now) (c .before .before .before .before .args .placed .now) (c .before .before .before .before .pre .1 .1 .0) (few-calls (c .before .before .before .before .args .table .now) (c .before .before .before .before .pre .0))))
 
--- src/order.rt:38:9
+-- src/order.rt:52:9
 walk-back-requires : tie.Need-walk-back-requires
 walk-back-requires c κs = search needs
 
--- src/order.rt:41:9
+-- src/order.rt:56:9
 returns : tie.Need-returns
-returns c = ?
+returns c = let p = c .before .before .before .before .before .before .before .before .before .pre in let z = stops-short (c .before .before .before .before .before .before .before .before .before .args .table .now) _ _ _ _ (c .before .walk-back .ensures) (c .before .before .before .before .before .before .before .before .before .args .placed .now) (c .before .before .before .before .mark .ensures) (p .1 .1 .0) (omega (arith, c .if1 .taken, p .1 .0)) in (rw z, rw z)
 
--- src/order.rt:44:29
-sub-place-of : tie.Need-sub-place-of
-sub-place-of c = search needs
+-- src/order.rt:58:15
+sub-write-met : tie.Need-sub-write-met
+sub-write-met c = search needs
 
--- src/order.rt:44:29
-part-place-of-start : tie.Need-part-place-of-start
-part-place-of-start c = search needs
+-- src/order.rt:58:15
+part-write-met-start : tie.Need-part-write-met-start
+part-write-met-start c = search needs
 
--- src/order.rt:44:29
-part-place-of-end : tie.Need-part-place-of-end
-part-place-of-end c = search needs
+-- src/order.rt:58:15
+part-write-met-end : tie.Need-part-write-met-end
+part-write-met-end c = search needs
 
--- src/order.rt:44:42
-cast-place-of : tie.Need-cast-place-of
-cast-place-of c = search needs
+-- src/order.rt:58:28
+cast-write-met : tie.Need-cast-write-met
+cast-write-met c = search needs
 
--- src/order.rt:44:20
-place-of-requires : tie.Need-place-of-requires
-place-of-requires c κs = search needs
+-- src/order.rt:58:40
+cast-write-met-2 : tie.Need-cast-write-met-2
+cast-write-met-2 c = search needs
 
--- src/order.rt:44:15
-add-end : tie.Need-add-end
-add-end c = ?
+-- src/order.rt:58:5
+write-met-requires : tie.Need-write-met-requires
+write-met-requires c κs = let p = c .before .before .before .before .before .before .before .before .before .before .before .before .pre in let w = c .before .before .before .before .walk-back .ensures in let r = path-rest (c .before .before .before .before .before .before .before .before .before .before .before .before .args .table .now) _ _ _ _ w (c .before .before .before .before .before .before .before .before .before .before .before .before .args .placed .now) (c .before .before .before .before .before .before .before .mark .ensures) (p .1 .1 .0) in let h : c .before .before .before .before .walk-back .result .call < c .before .before .before .before .before .before .before .before .before .before .before .before .args .count = omega (arith, c .before .before .before .if1 .left) in (subst (λ l. T (among l (c .before .before .before .before .walk-back .result .call))) (sym r) (w .again (omega (arith, p .1 .0))), (subst (λ l. (i : ℕ) → i < length l → getD l i 0 < c .before .before .before .before .before .before .before .before .before .before .before .before .args .count) (sym r) (λ i l. omega (arith, w .calls i l, p .1 .0)), omega (arith, ap length r, path-few (c .before .before .before .before .before .before .before .before .before .before .before .before .args .table .now) _ _ _ _ w, p .1 .0, p .1 .1 .1)))
 
--- src/order.rt:44:15
-add-end-2 : tie.Need-add-end-2
-add-end-2 c = ?
-
--- src/order.rt:45:17
-sub-cycle : tie.Need-sub-cycle
-sub-cycle c = search needs
-
--- src/order.rt:45:17
-part-cycle-start : tie.Need-part-cycle-start
-part-cycle-start c = search needs
-
--- src/order.rt:45:17
-part-cycle-end : tie.Need-part-cycle-end
-part-cycle-end c = ?
-
--- src/order.rt:46:50
-cast-lowest-of : tie.Need-cast-lowest-of
-cast-lowest-of c = search needs
-
--- src/order.rt:46:33
-lowest-of-requires : tie.Need-lowest-of-requires
-lowest-of-requires c κs = search needs
-
--- src/order.rt:46:9
-place-of-requires-2 : tie.Need-place-of-requires-2
-place-of-requires-2 c κs = search needs
-
--- src/order.rt:47:5
-write-turned-requires : tie.Need-write-turned-requires
-write-turned-requires c κs = ?
-
--- src/order.rt:48:5
-sub-result : tie.Need-sub-result
-sub-result c = search needs
-
--- src/order.rt:25:1
+-- src/order.rt:41:1
 same-length : tie.Need-same-length
 same-length c = search needs
 
--- src/order.rt:25:1
+-- src/order.rt:41:1
 returns-2 : tie.Need-returns-2
-returns-2 c = ?
+returns-2 c = let p = c .before .before .before .before .before .before .before .before .before .before .before .before .before .before .before .pre in let w = c .before .before .before .before .before .before .before .walk-back .ensures in let r = path-rest (c .before .before .before .before .before .before .before .before .before .before .before .before .before .before .before .args .table .now) _ _ _ _ w (c .before .before .before .before .before .before .before .before .before .before .before .before .before .before .before .args .placed .now) (c .before .before .before .before .before .before .before .before .before .before .mark .ensures) (p .1 .1 .0) in let m = meets-again (c .before .before .before .before .before .before .before .before .before .before .before .before .before .before .before .args .table .now) _ _ _ _ w (c .before .before .before .before .before .before .before .before .before .before .before .before .before .before .before .args .placed .now) (c .before .before .before .before .before .before .before .before .before .before .mark .ensures) (p .1 .1 .0) (omega (arith, c .before .before .before .before .before .before .if1 .left, p .1 .0)) in let s = subst (λ n. turn (lowestPlace n (upto (c .before .before .before .before .before .before .before .walk-back .result .call) (take (224 - c .before .before .before .before .before .before .before .walk-back .result .at) (drop (c .before .before .before .before .before .before .before .walk-back .result .at) (c .before .before .before .before .before .before .before .walk-back .last .1 .1 .1 .0))))) (upto (c .before .before .before .before .before .before .before .walk-back .result .call) (take (224 - c .before .before .before .before .before .before .before .walk-back .result .at) (drop (c .before .before .before .before .before .before .before .walk-back .result .at) (c .before .before .before .before .before .before .before .walk-back .last .1 .1 .1 .0)))) ≡ _) (sym (p .1 .0)) (rw r m) in (c .before .before .write-met .ensures .0 ∙ ap length s, c .before .before .write-met .ensures .1 ∙ ap (λ l. fronted l (c .before .before .before .before .before .before .before .before .before .before .before .before .before .before .before .args .out .now)) s)
 
 pub show-cycle-spec : {M : Type 1} → statement M
 show-cycle-spec =
@@ -96,20 +70,11 @@ show-cycle-spec =
     mark-requires
     walk-back-requires
     returns
-    sub-place-of
-    part-place-of-start
-    part-place-of-end
-    cast-place-of
-    place-of-requires
-    add-end
-    add-end-2
-    sub-cycle
-    part-cycle-start
-    part-cycle-end
-    cast-lowest-of
-    lowest-of-requires
-    place-of-requires-2
-    write-turned-requires
-    sub-result
+    sub-write-met
+    part-write-met-start
+    part-write-met-end
+    cast-write-met
+    cast-write-met-2
+    write-met-requires
     same-length
     returns-2)
