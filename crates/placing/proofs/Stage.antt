@@ -84,14 +84,16 @@ module _ (s : Shape) (ok : Wired s) (done : ℕ → Bool) where
       back z = elim (either (done c)) [
         | inl t ↦ absurd (let e = eqb→eq (waits s done c) 0 z in omega (arith, done-waits c t))
         | inr t ↦
-            Ready→ready (total s) (precedes s) done c
-            (t, λ a h p. elim (either (done a)) [
-              | inl d ↦ d
-              | inr d ↦
-                  absurd
-                  (into-none s (λ a. not (done a)) c (sym (left-waits c t) ∙ eqb→eq (waits s done c) 0 z) a
-                  (precedes-iff s ok a c .1 p) d)
-            ])
+            Ready→ready (total s) (precedes s) done c (
+              t,
+              λ a h p. elim (either (done a)) [
+                | inl d ↦ d
+                | inr d ↦
+                    absurd
+                    (into-none s (λ a. not (done a)) c (sym (left-waits c t) ∙ eqb→eq (waits s done c) 0 z) a
+                    (precedes-iff s ok a c .1 p) d)
+              ],
+            )
       ]
 
 -- two tests that agree below n have one lowest
@@ -184,10 +186,11 @@ module _ (t : List ℕ) (ok : Sound t) where
     marked x = elim (ℕ-discrete x c) [
       | yes y ↦
           rw (y, getD-set-same counts c 255 0 (omega (arith, g .waiting .long, few-calls t ok)))
-          (omega
-          (arith,
-          done-waits (shapeOf t) (ok .wired) (add c (among (take k calls))) c (add-self c (among (take k calls))),
-          to-placed c (add-self c (among (take k calls)))))
+          (omega (
+            arith,
+            done-waits (shapeOf t) (ok .wired) (add c (among (take k calls))) c (add-self c (among (take k calls))),
+            to-placed c (add-self c (among (take k calls))),
+          ))
       | no ne ↦ rw (getD-set-other counts c x 255 0 ne) (g .waiting .each x ∙ other ne)
     ]
       where
@@ -196,18 +199,20 @@ module _ (t : List ℕ) (ok : Sound t) where
         other ne = elim (either (among (take k calls) x)) [
           | inl z ↦
               (let z′ = add-more c (among (take k calls)) x z in
-              omega
-              (arith,
-              done-waits (shapeOf t) (ok .wired) (among (take k calls)) x z,
-              done-waits (shapeOf t) (ok .wired) (add c (among (take k calls))) x z′,
-              to-placed x z′))
+              omega (
+                arith,
+                done-waits (shapeOf t) (ok .wired) (among (take k calls)) x z,
+                done-waits (shapeOf t) (ok .wired) (add c (among (take k calls))) x z′,
+                to-placed x z′,
+              ))
           | inr z ↦
-              omega
-              (arith,
-              left-waits (shapeOf t) (ok .wired) (among (take k calls)) x z,
-              left-waits (shapeOf t) (ok .wired) (add c (among (take k calls))) x
-              (rw (add-other c (among (take k calls)) x ne) z),
-              into-part (shapeOf t) (among (take k calls)) c x new)
+              omega (
+                arith,
+                left-waits (shapeOf t) (ok .wired) (among (take k calls)) x z,
+                left-waits (shapeOf t) (ok .wired) (add c (among (take k calls))) x
+                    (rw (add-other c (among (take k calls)) x ne) z),
+                into-part (shapeOf t) (among (take k calls)) c x new,
+              )
         ]
 
     pub stage-room : (x : ℕ) → into (shapeOf t) (only c) x ≤ getD (set counts c 255) x 0

@@ -278,19 +278,21 @@ module _ (pairs : List ℕ) (k y first : ℕ) (marks : List ℕ) (best : ℕ) wh
       → best ≡ lowerFeeding pairs k y first marks best
   unfolding lowerFeeding
   feeding-done e n =
-      rw
-      (is-true (eqb (pairOutput pairs k) y) (eq-true _ _ e),
-      is-false (eqb (getD marks (first + pairInput pairs k) 0) 0) (eq-false _ _ n),
-      and-false (ltb (pairInput pairs k) best))
+      rw (
+        is-true (eqb (pairOutput pairs k) y) (eq-true _ _ e),
+        is-false (eqb (getD marks (first + pairInput pairs k) 0) 0) (eq-false _ _ n),
+        and-false (ltb (pairInput pairs k) best),
+      )
 
   pub feeding-lower : pairOutput pairs k ≡ y → pairInput pairs k < best
       → getD marks (first + pairInput pairs k) 0 ≡ 0 → pairInput pairs k ≡ lowerFeeding pairs k y first marks best
   unfolding lowerFeeding
   feeding-lower e h z =
-      rw
-      (is-true (eqb (pairOutput pairs k) y) (eq-true _ _ e),
-      lt-true (pairInput pairs k) best h,
-      is-true (eqb (getD marks (first + pairInput pairs k) 0) 0) (eq-true _ _ z))
+      rw (
+        is-true (eqb (pairOutput pairs k) y) (eq-true _ _ e),
+        lt-true (pairInput pairs k) best h,
+        is-true (eqb (getD marks (first + pairInput pairs k) 0) 0) (eq-true _ _ z),
+      )
 
 module _ (s : Shape) (marks : List ℕ) (x : ℕ) where
   pub source-stays : getD marks (getNo s (s .source x)) 0 ≡ 0 → getNo s (s .source x) ≡ sourceLeft s marks x

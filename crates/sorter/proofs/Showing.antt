@@ -96,7 +96,7 @@ module _ (t : List ℕ) (done : ℕ → Bool) (path : List ℕ) (at call : ℕ) 
   unfolding shown
   nothing-shown h =
       let e : met (callCount t) (precedes (shapeOf t)) done ≡ [] =
-          w .is ∙ ap (λ b. cond b (upto call (drop at path)) []) (lt-false call (callCount t) h) in
+      w .is ∙ ap (λ b. cond b (upto call (drop at path)) []) (lt-false call (callCount t) h) in
       rw e (none (lowestPlace (callCount t) []))
     where
       none : (k : ℕ) → turn k [] ≡ []
@@ -110,7 +110,7 @@ module _ (t : List ℕ) (done : ℕ → Bool) (path : List ℕ) (at call : ℕ) 
   unfolding shown
   something-shown h =
       let e : met (callCount t) (precedes (shapeOf t)) done ≡ upto call (drop at path) =
-          w .is ∙ ap (λ b. cond b (upto call (drop at path)) []) (lt-true call (callCount t) h) in
+      w .is ∙ ap (λ b. cond b (upto call (drop at path)) []) (lt-true call (callCount t) h) in
       rw e
 
   pub path-few : length (drop at path) ≤ callCount t
@@ -140,3 +140,9 @@ module _ (t : List ℕ) (done : ℕ → Bool) (path : List ℕ) (at call : ℕ) 
   meets-again h =
       something-shown t done path at call w h
       ∙ ap (shown (callCount t) (precedes (shapeOf t))) (e ∙ ap among q)
+
+  -- in the code's terms
+  pub met-shown : (n : ℕ) → n ≡ callCount t → call < n
+      → turn (lowestPlace n (upto call (take (224 - at) (drop at path)))) (upto call (take (224 - at) (drop at path)))
+      ≡ shownOf t
+  met-shown n f h = rw (path-rest, f) (meets-again (omega arith))

@@ -90,11 +90,12 @@ module _ (t : List ℕ) (done : ℕ → Bool) where
     pub trail-room : call < callCount t → getD seen call 0 ≡ 0 → 0 < at
     trail-room h z =
         let new : T (not (among (drop at path) call)) = subst (λ q. T (not (q call))) (g .shown) (unmarked seen call z) in
-        omega
-        (arith,
-        count-add (among (drop at path)) call (callCount t) h new,
-        count-le (among (call ∷ drop at path)) (callCount t),
-        g .many)
+        omega (
+          arith,
+          count-add (among (drop at path)) call (callCount t) h new,
+          count-le (among (call ∷ drop at path)) (callCount t),
+          g .many,
+        )
 
     pub trail-on : (next : ℕ) → call < callCount t → getD seen call 0 ≡ 0
         → next ≡ lowestBefore (callCount t) (precedes (shapeOf t)) done call
@@ -105,7 +106,7 @@ module _ (t : List ℕ) (done : ℕ → Bool) where
         let back : suc (at - 1) ≡ at = omega arith in
         let fits : at - 1 < length path = omega (arith, g .long, g .place) in
         let d : drop (at - 1) (set path (at - 1) call) ≡ call ∷ drop at path =
-            pushed path (at - 1) call fits ∙ ap (λ n. call ∷ drop n path) back in
+        pushed path (at - 1) call fits ∙ ap (λ n. call ∷ drop n path) back in
         record {
           long = length-set path (at - 1) call ∙ g .long;
           wide = length-set seen call 1 ∙ g .wide;
@@ -123,10 +124,11 @@ module _ (t : List ℕ) (done : ℕ → Bool) where
       where
         pushed : (p : List ℕ) (i c : ℕ) → i < length p → drop i (set p i c) ≡ c ∷ drop (suc i) p
         pushed p i c l =
-            rw
-            (drop-cons (set p i c) i 0 (rw (length-set p i c) l),
-            getD-set-same p i c 0 l,
-            drop-set-lt (suc i) p i c (omega arith))
+            rw (
+              drop-cons (set p i c) i 0 (rw (length-set p i c) l),
+              getD-set-same p i c 0 l,
+              drop-set-lt (suc i) p i c (omega arith),
+            )
 
     pub trail-met : call < callCount t → (getD seen call 0 ≡ 0 → ⊥) → Walked t done path at call
     trail-met h n =

@@ -76,13 +76,16 @@ module _ (bytes : List ℕ) (first : ℕ) where
       → i < length bytes → ((from ≡ length bytes) × (place ≡ 0)) ⊎ ((from ≡ length bytes → ⊥) × (place ≡ from))
       → Turning out₀ out from i
       → (place < length bytes) × Turning out₀ (set out i (getD bytes place 0)) (place + 1) (i + 1)
-  turning-on out₀ out from place i h room hi case g = (small case, record {
-    most = omega arith;
-    within = omega (arith, small case);
-    stands = next case (g .stands);
-    front = fronting-on (turn first bytes) (drop (i + 1) (turn first bytes)) out₀ out i (getD bytes place 0)
-        (omega (arith, g .front .long)) (subst (λ r. Fronting (turn first bytes) r out₀ out i) step (g .front));
-  })
+  turning-on out₀ out from place i h room hi case g = (
+    small case,
+    record {
+      most = omega arith;
+      within = omega (arith, small case);
+      stands = next case (g .stands);
+      front = fronting-on (turn first bytes) (drop (i + 1) (turn first bytes)) out₀ out i (getD bytes place 0)
+          (omega (arith, g .front .long)) (subst (λ r. Fronting (turn first bytes) r out₀ out i) step (g .front));
+    },
+  )
     where
       small : ((from ≡ length bytes) × (place ≡ 0)) ⊎ ((from ≡ length bytes → ⊥) × (place ≡ from))
           → place < length bytes

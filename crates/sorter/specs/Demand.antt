@@ -90,11 +90,10 @@ module _ (t : List ℕ) (room : ℕ) (sound : Sound t) (enough : callCount t ≤
       → (ordering t room ≡ outcome 9 (length (shownOf t)) (shownOf t))
       × Shown (callCount t) (precedes (shapeOf t)) (shownOf t)
   not-placed n =
-      let c = cycle-shown n in
-      (
+      let c = cycle-shown n in (
         ordering-settled t room (sound-passed t sound) enough
-        ∙ settled-some t n
-        ∙ stopped-shown t (λ z. omega (arith, c .cycle .some)),
+            ∙ settled-some t n
+            ∙ stopped-shown t (λ z. omega (arith, c .cycle .some)),
         c,
       )
 
@@ -136,8 +135,7 @@ module _ (t : List ℕ) (room : ℕ) (sound : Sound t) (enough : callCount t ≤
   order-else n = elim (ℕ-discrete (length (placedOf t)) (callCount t)) [
     | yes p ↦ absurd (n (ap (λ (o : Outcome). o .answer .number) (all-placed p .0)))
     | no p ↦
-        (let (o, c) = not-placed p in
-        (
+        (let (o, c) = not-placed p in (
           ap (λ (o : Outcome). o .answer .number) o,
           ap (λ (o : Outcome). o .answer .place) o ∙ sym (ap (λ (o : Outcome). length (o .bytes)) o),
           rw o c,

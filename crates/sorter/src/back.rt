@@ -26,7 +26,14 @@ use table::parts::output_owners;
 use table::parts::unit_count;
 
 // Does the set of input x remain and keep the step of the unit waiting? The sets begin at `first`.
-fn keeps_step(owners: &[u8], kinds: &[u8], unit: u8, first: usize, marks: &[u8; 224], x: usize) -> bool
+fn keeps_step(
+    owners: &[u8],
+    kinds: &[u8],
+    unit: u8,
+    first: usize,
+    marks: &[u8; 224],
+    x: usize,
+) -> bool
     requires { ⌜ x < length (now owners) ⌝ }
     requires { ⌜ length (now kinds) ≡ length (now owners) ⌝ }
     requires { ⌜ first + length (now owners) ≤ 224 ⌝ }
@@ -63,7 +70,14 @@ fn before_step(table: &[u8], unit: usize, marks: &[u8; 224]) -> usize
 }
 
 // The lower of `best` and the input of feed k, where that feeds the output and its set remains.
-fn lower_feeding(pairs: &[u8], k: usize, output: u8, first: usize, marks: &[u8; 224], best: usize) -> usize
+fn lower_feeding(
+    pairs: &[u8],
+    k: usize,
+    output: u8,
+    first: usize,
+    marks: &[u8; 224],
+    best: usize,
+) -> usize
     requires { ⌜ 2 * k + 1 < length (now pairs) ⌝ }
     requires { ⌜ first + best ≤ 224 ⌝ }
     ensures { λ r. ⌜ r ≡ lowerFeeding (now (pairs .entry)) k output first (now (marks .entry)) best ⌝ }

@@ -28,7 +28,7 @@ fn write_met(seen: &[u8], call: u8, count: u8, out: &mut [u8]) -> usize
     ensures { λ r. ⌜ r ≡ length (turn (lowestPlace count (upto call (now (seen .entry)))) (upto call (now (seen .entry)))) ⌝ }
     ensures { λ r. ⌜ now (out .exit)
         ≡ fronted (turn (lowestPlace count (upto call (now (seen .entry)))) (upto call (now (seen .entry))))
-            (now (out .entry)) ⌝ }
+        (now (out .entry)) ⌝ }
 {
     let length = place_of(seen, call) + 1;
     let cycle = &seen[..length];

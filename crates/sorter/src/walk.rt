@@ -58,18 +58,12 @@ pub fn walk_back(table: &[u8], count: usize, marks: &[u8; 224], path: &mut [u8; 
     let mut call = lowest_left(marks, count);
     while call < count {
         if seen[call] != 0 {
-            return Met {
-                at: at,
-                call: call,
-            };
+            return Met { at: at, call: call };
         }
         at -= 1;
         path[at] = call as u8;
         seen[call] = 1;
         call = lowest_before(table, call, marks);
     }
-    Met {
-        at: at,
-        call: call,
-    }
+    Met { at: at, call: call }
 }

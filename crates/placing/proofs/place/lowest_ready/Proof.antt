@@ -1,14 +1,10 @@
 use Rattle.placing.proofs.place.lowest_ready.Statement.{statement}
 use Rattle.placing.proofs.place.lowest_ready.Tie as tie
-use Rattle.placing.proofs.place.lowest_ready.Reads as reads
-use Rattle.placing.proofs.place.lowest_ready.Lts as lts
 use borrow.Author.Needs.{needs}
-use Prim.Native.Nat.{ℕ, _+_, _-_, _≤_, _<_}
-use mathlib.Core.Path.{_≡_, sym, _∙_}
+use Prim.Native.Nat.{ℕ, _-_, _≤_, _<_}
 use mathlib.Core.Bool.{not}
 use native.Mathlib.Omega.{arith}
 use lib.Dec.{T}
-use lib.ListN.{getD}
 use borrow.Author.Count.{below-more}
 use Rattle.search.specs.Truth.{eq-false}
 use Rattle.placing.specs.Less.{isKey}
@@ -20,27 +16,21 @@ Inv-loop waiting count c₀ c = (c ≤ count) × ((k : ℕ) → k < c → T (not
 abbrev μ-loop : tie.MeasureT-loop
 μ-loop waiting count c₀ c = count - c
 
--- src/place.rt:53:5
 loop-holds : tie.Need-loop-holds Inv-loop μ-loop
 loop-holds c = (omega arith, λ k h. absurd (omega arith))
 
--- src/place.rt:53:11
 element-copy-out-if1 : tie.Need-element-copy-out-if1 Inv-loop μ-loop
 element-copy-out-if1 c = search needs
 
--- src/place.rt:54:9
 add-c : tie.Need-add-c Inv-loop μ-loop
 add-c c = let z = zero-behind (c .before .before .before .args .waiting .now) (c .before .before .before .args .count) (c .before .before .loop .c) (c .before .before .before .pre .1) (c .before .before .loop .inv .0) (c .if1 .taken) in search needs
 
--- src/place.rt:53:5
 loop-less : tie.Need-loop-less Inv-loop μ-loop
 loop-less c = let z = zero-behind (c .before .before .before .args .waiting .now) (c .before .before .before .args .count) (c .before .before .loop .c) (c .before .before .before .pre .1) (c .before .before .loop .inv .0) (c .if1 .taken) in omega arith
 
--- src/place.rt:53:5
 loop-again : tie.Need-loop-again Inv-loop μ-loop
 loop-again c = let z = zero-behind (c .before .before .before .args .waiting .now) (c .before .before .before .args .count) (c .before .before .loop .c) (c .before .before .before .pre .1) (c .before .before .loop .inv .0) (c .if1 .taken) in (omega arith, below-more (λ k. T (not (isKey (c .before .before .before .args .waiting .now) 0 k))) (c .before .before .loop .c) (c .before .before .loop .inv .1) (eq-false _ _ (c .if1 .taken)))
 
--- src/place.rt:47:1
 returns : tie.Need-returns Inv-loop μ-loop
 returns c = zero-found (c .before .before .before .args .waiting .now) (c .before .before .before .args .count) (c .before .before .loop .c) (c .before .before .loop .inv .0) (c .before .before .loop .inv .1) (c .if1 .left)
 

@@ -1,65 +1,46 @@
 use borrow.Author.Needs.{needs}
 use Rattle.placing.proofs.release.release.Statement.{statement}
 use Rattle.placing.proofs.release.release.Tie as tie
-use Rattle.placing.proofs.release.release.Reads as reads
-use Rattle.placing.proofs.release.release.Lts as lts
-use Rattle.calls.proofs.number.call_of.Reads as call-of-reads
-use Rattle.placing.proofs.release.release_get.Reads as release-get-reads
-use Rattle.placing.proofs.release.release_set.Reads as release-set-reads
-use Rattle.placing.proofs.release.release_step.Reads as release-step-reads
-use mathlib.Core.Path.{_≡_, sym, subst, _∙_}
+use mathlib.Core.Path.{sym, subst, _∙_}
 use lib.ListN.{getD}
 use Prim.Native.Nat.{ℕ, _≤_}
 use Rattle.table.specs.Packed.{shapeOf}
-use Rattle.calls.specs.Number.{getNo, setNo}
-use Rattle.placing.specs.Less.{Less}
 use Rattle.placing.specs.Waiting.{only, into}
 use Rattle.placing.proofs.Told.{told-step, told-get, told-set, told-none}
 
--- src/release.rt:106:9
 call-of-requires : tie.Need-call-of-requires
 call-of-requires c κs = search needs
 
--- src/release.rt:108:20
 enum-known-kind : tie.Need-enum-known-kind
 enum-known-kind c = search needs
 
--- src/release.rt:108:29
 release-step-requires : tie.Need-release-step-requires
 release-step-requires c κs = let a = c .before .before .before .before .before .before .args in let p = c .before .before .before .before .before .before .pre in let (l, e) = told-step (shapeOf (a .table .now)) (a .call) (p .1 .0) (c .before .before .kind .given .0 .0) (sym (c .before .before .before .before .call-of .ensures) ∙ c .before .before .kind .given .1) in (p .0, (l, (p .1 .1 .0, subst (λ d. (k : ℕ) → into (shapeOf (a .table .now)) (only d) k ≤ getD (a .waiting .now) k 0) (sym e) (p .1 .1 .1))))
 
--- src/release.rt:109:19
 enum-known-kind-2 : tie.Need-enum-known-kind-2
 enum-known-kind-2 c = search needs
 
--- src/release.rt:109:30
 release-get-requires : tie.Need-release-get-requires
 release-get-requires c κs = let a = c .before .before .before .before .before .before .args in let p = c .before .before .before .before .before .before .pre in let (l, e) = told-get (shapeOf (a .table .now)) (a .call) (p .1 .0) (c .before .before .kind2 .given .0 .0) (sym (c .before .before .before .before .call-of .ensures) ∙ c .before .before .kind2 .given .1) in (p .0, (l, (p .1 .1 .0, subst (λ d. (k : ℕ) → into (shapeOf (a .table .now)) (only d) k ≤ getD (a .waiting .now) k 0) (sym e) (p .1 .1 .1))))
 
--- src/release.rt:110:19
 enum-known-kind-3 : tie.Need-enum-known-kind-3
 enum-known-kind-3 c = search needs
 
--- src/release.rt:110:29
 release-set-requires : tie.Need-release-set-requires
 release-set-requires c κs = let a = c .before .before .before .before .before .before .args in let p = c .before .before .before .before .before .before .pre in let (l, e) = told-set (shapeOf (a .table .now)) (a .call) (p .1 .0) (c .before .before .kind3 .given .0 .0) (sym (c .before .before .before .before .call-of .ensures) ∙ c .before .before .kind3 .given .1) in (p .0, (l, (p .1 .1 .0, subst (λ d. (k : ℕ) → into (shapeOf (a .table .now)) (only d) k ≤ getD (a .waiting .now) k 0) (sym e) (p .1 .1 .1))))
 
 enum-told : tie.Need-enum-told
 enum-told c = search needs
 
--- src/release.rt:98:1
 returns : tie.Need-returns
 returns c = let a = c .before .before .before .before .before .before .before .args in let p = c .before .before .before .before .before .before .before .pre in let (l, e) = told-step (shapeOf (a .table .now)) (a .call) (p .1 .0) (c .before .before .before .kind .given .0 .0) (sym (c .before .before .before .before .before .call-of .ensures) ∙ c .before .before .before .kind .given .1) in rw (← e) (c .release-step .ensures)
 
--- src/release.rt:98:1
 returns-2 : tie.Need-returns-2
 returns-2 c = let a = c .before .before .before .before .before .before .before .args in let p = c .before .before .before .before .before .before .before .pre in let (l, e) = told-get (shapeOf (a .table .now)) (a .call) (p .1 .0) (c .before .before .before .kind2 .given .0 .0) (sym (c .before .before .before .before .before .call-of .ensures) ∙ c .before .before .before .kind2 .given .1) in rw (← e) (c .release-get .ensures)
 
--- src/release.rt:98:1
 returns-3 : tie.Need-returns-3
 returns-3 c = let a = c .before .before .before .before .before .before .before .args in let p = c .before .before .before .before .before .before .before .pre in let (l, e) = told-set (shapeOf (a .table .now)) (a .call) (p .1 .0) (c .before .before .before .kind3 .given .0 .0) (sym (c .before .before .before .before .before .call-of .ensures) ∙ c .before .before .before .kind3 .given .1) in rw (← e) (c .release-set .ensures)
 
--- src/release.rt:98:1
 returns-4 : tie.Need-returns-4
 returns-4 c = let a = c .before .before .before .before .args in let p = c .before .before .before .before .pre in absurd (told-none (shapeOf (a .table .now)) (a .call) (p .1 .0) (sym (c .before .before .call-of .ensures) ∙ c .enum-told .given .1))
 

@@ -1,65 +1,44 @@
 use borrow.Author.Needs.{needs}
 use Rattle.placing.proofs.release.release_step.Statement.{statement}
 use Rattle.placing.proofs.release.release_step.Tie as tie
-use Rattle.placing.proofs.release.release_step.Reads as reads
-use Rattle.placing.proofs.release.release_step.Lts as lts
-use Rattle.placing.proofs.waiting.lower_both.Reads as lower-both-reads
-use Rattle.placing.proofs.waiting.lower_keyed.Reads as lower-keyed-reads
-use Rattle.table.proofs.parts.input_kinds.Reads as input-kinds-reads
-use Rattle.table.proofs.parts.input_owners.Reads as input-owners-reads
-use Rattle.table.proofs.parts.output_count.Reads as output-count-reads
-use Rattle.table.proofs.parts.output_owners.Reads as output-owners-reads
-use Rattle.table.proofs.parts.unit_count.Reads as unit-count-reads
 use native.Mathlib.Omega.{arith}
-use Rattle.placing.proofs.Gives.{fits, step-gives, hits-gets, less-both, less-left}
+use Rattle.placing.proofs.Gives.{fits, step-gives, less-both, less-left}
 use Rattle.table.specs.Layout.{long-output-owners, long-input-owners, long-kinds}
-use mathlib.Core.Path.{_≡_, refl, sym, ap, ap₂, _∙_}
-use Prim.Native.Nat.{ℕ, _+_, _≤_, _<_}
-use lib.ListN.{length, getD}
-use Rattle.table.specs.Packed.{units, outputs, inputOwners, kinds, shapeOf}
-use Rattle.placing.specs.Waiting.{only, into, stepsToGets}
+use mathlib.Core.Path.{refl, sym, ap, ap₂, _∙_}
+use Prim.Native.Nat.{_+_}
+use lib.ListN.{length}
+use Rattle.table.specs.Packed.{units, outputs, inputOwners, kinds}
 
--- src/release.rt:32:9
 unit-count-requires : tie.Need-unit-count-requires
 unit-count-requires c κs = search needs
 
--- src/release.rt:33:23
 output-count-requires : tie.Need-output-count-requires
 output-count-requires c κs = search needs
 
--- src/release.rt:33:16
 add-sets : tie.Need-add-sets
 add-sets c = search needs
 
--- src/release.rt:34:17
 output-owners-requires : tie.Need-output-owners-requires
 output-owners-requires c κs = search needs
 
--- src/release.rt:34:39
 cast-lower-keyed : tie.Need-cast-lower-keyed
 cast-lower-keyed c = search needs
 
--- src/release.rt:34:5
 lower-keyed-requires : tie.Need-lower-keyed-requires
 lower-keyed-requires c κs = let a = c .before .before .before .before .before .args in let p = c .before .before .before .before .before .pre in (p .1 .1 .0, (omega (arith, c .before .before .before .unit-count .ensures .0, ap length (c .before .output-owners .ensures), long-output-owners (a .table .now) (p .0 .long), fits (a .table .now) (p .0)), (λ k. omega (arith, p .1 .1 .1 k, step-gives (a .table .now) (p .0) (a .unit) (c .before .before .before .unit-count .result) (units (a .table .now) + outputs (a .table .now)) (c .before .output-owners .result .now) (inputOwners (a .table .now)) (kinds (a .table .now)) (p .1 .0) (c .before .before .before .unit-count .ensures .0) refl (c .before .output-owners .ensures) refl refl k))))
 
--- src/release.rt:35:16
 input-owners-requires : tie.Need-input-owners-requires
 input-owners-requires c κs = search needs
 
--- src/release.rt:35:37
 cast-lower-both : tie.Need-cast-lower-both
 cast-lower-both c = search needs
 
--- src/release.rt:35:49
 input-kinds-requires : tie.Need-input-kinds-requires
 input-kinds-requires c κs = search needs
 
--- src/release.rt:35:5
 lower-both-requires : tie.Need-lower-both-requires
 lower-both-requires c κs = let a = c .before .before .before .before .before .before .before .before .before .args in let p = c .before .before .before .before .before .before .before .before .before .pre in let e = ap₂ _+_ (c .before .before .before .before .before .before .before .unit-count .ensures .0) (c .before .before .before .before .before .before .output-count .ensures .0) in let l = p .0 .long in let i = c .before .before .input-owners .ensures in let k = c .before .input-kinds .ensures in (c .before .before .before .lower-keyed .ensures .long ∙ p .1 .1 .0, (ap length i ∙ long-input-owners (a .table .now) l ∙ sym (ap length k ∙ long-kinds (a .table .now) l), (omega (arith, e, ap length i, long-input-owners (a .table .now) l, fits (a .table .now) (p .0)), less-left _ _ _ _ _ (step-gives (a .table .now) (p .0) (a .unit) _ _ _ _ _ (p .1 .0) (c .before .before .before .before .before .before .before .unit-count .ensures .0) e (c .before .before .before .before .before .output-owners .ensures) i k) (p .1 .1 .1) (c .before .before .before .lower-keyed .ensures))))
 
--- src/release.rt:24:1
 returns : tie.Need-returns
 returns c = let a = c .before .before .before .before .before .before .before .before .before .before .args in let p = c .before .before .before .before .before .before .before .before .before .before .pre in let e = ap₂ _+_ (c .before .before .before .before .before .before .before .before .unit-count .ensures .0) (c .before .before .before .before .before .before .before .output-count .ensures .0) in less-both _ _ _ _ _ _ (step-gives (a .table .now) (p .0) (a .unit) _ _ _ _ _ (p .1 .0) (c .before .before .before .before .before .before .before .before .unit-count .ensures .0) e (c .before .before .before .before .before .before .output-owners .ensures) (c .before .before .before .input-owners .ensures) (c .before .before .input-kinds .ensures)) (c .before .before .before .before .lower-keyed .ensures) (c .lower-both .ensures)
 

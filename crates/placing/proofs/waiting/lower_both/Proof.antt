@@ -1,13 +1,8 @@
 use Rattle.placing.proofs.waiting.lower_both.Statement.{statement}
 use Rattle.placing.proofs.waiting.lower_both.Tie as tie
-use Rattle.placing.proofs.waiting.lower_both.Reads as reads
-use Rattle.placing.proofs.waiting.lower_both.Lts as lts
 use borrow.Author.Needs.{needs}
-use Prim.Native.Nat.{ℕ, _+_, _-_, _≤_, _<_}
-use mathlib.Core.Path.{_≡_}
-use lib.ListN.{length, getD}
-use native.Mathlib.Omega.{arith}
-use Rattle.search.specs.Truth.{eq-true, eq-false}
+use Prim.Native.Nat.{_-_, _≤_}
+use lib.ListN.{length}
 use Rattle.placing.specs.Less.{areKeys, nth, hits, Less}
 use Rattle.placing.proofs.Hits.{less-none, less-all, lower-some, lower-hit, less-miss}
 use mathlib.Core.Logic.{⊎-elim}
@@ -19,47 +14,36 @@ Inv-loop keys key others other first waiting₀ i₀ waiting i = (i ≤ (length 
 abbrev μ-loop : tie.MeasureT-loop
 μ-loop keys key others other first waiting₀ i₀ waiting i = (length keys) - i
 
--- src/waiting.rt:107:5
 loop-holds : tie.Need-loop-holds Inv-loop μ-loop
 loop-holds c = (search needs, less-none _ _ _)
 
--- src/waiting.rt:108:12
 shared-slice-read-if1 : tie.Need-shared-slice-read-if1 Inv-loop μ-loop
 shared-slice-read-if1 c = search needs
 
--- src/waiting.rt:109:16
 shared-slice-read-if2 : tie.Need-shared-slice-read-if2 Inv-loop μ-loop
 shared-slice-read-if2 c = search needs
 
--- src/waiting.rt:110:25
 add-waiting : tie.Need-add-waiting Inv-loop μ-loop
 add-waiting c = search needs
 
--- src/waiting.rt:110:17
 element-copy-out-waiting : tie.Need-element-copy-out-waiting Inv-loop μ-loop
 element-copy-out-waiting c = search needs
 
--- src/waiting.rt:110:17
 sub-waiting : tie.Need-sub-waiting Inv-loop μ-loop
 sub-waiting c = let a = c .before .before .before .before .before .before .before .args in let l = c .before .before .before .before .before .before .loop in lower-some (areKeys (a .keys .now) (a .key) (a .others .now) (a .other)) (nth (a .first)) (l .i) (length (a .keys .now)) (a .waiting .now) (l .waiting) (c .before .before .before .before .before .loop-test .taken) (both-keys (a .keys .now) (a .key) (a .others .now) (a .other) (l .i) (c .before .before .before .if1 .taken) (c .before .if2 .taken)) (c .before .before .before .before .before .before .before .pre .1 .1 .1) (l .inv .1)
 
--- src/waiting.rt:110:17
 element-write-waiting : tie.Need-element-write-waiting Inv-loop μ-loop
 element-write-waiting c = search needs
 
--- src/waiting.rt:113:9
 add-i : tie.Need-add-i Inv-loop μ-loop
 add-i c = search needs
 
--- src/waiting.rt:107:5
 loop-less : tie.Need-loop-less Inv-loop μ-loop
 loop-less c = search needs
 
--- src/waiting.rt:107:5
 loop-again : tie.Need-loop-again Inv-loop μ-loop
 loop-again c = let a = c .before .before .before .before .args in let l = c .before .before .before .loop in (search needs, ⊎-elim (λ w. rw (w .4) (lower-hit (areKeys (a .keys .now) (a .key) (a .others .now) (a .other)) (nth (a .first)) (l .i) (length (a .keys .now)) (a .waiting .now) (l .waiting) (c .before .before .loop-test .taken) (both-keys (a .keys .now) (a .key) (a .others .now) (a .other) (l .i) (w .0 .taken) (w .2 .taken)) (search needs) (c .before .before .before .before .pre .1 .1 .1) (l .inv .1))) (⊎-elim (λ w. rw (w .3) (less-miss (areKeys (a .keys .now) (a .key) (a .others .now) (a .other)) (nth (a .first)) (l .i) (a .waiting .now) (l .waiting) (second-other (a .keys .now) (a .key) (a .others .now) (a .other) (l .i) (w .2 .left)) (l .inv .1))) (λ w. rw (w .1) (less-miss (areKeys (a .keys .now) (a .key) (a .others .now) (a .other)) (nth (a .first)) (l .i) (a .waiting .now) (l .waiting) (first-other (a .keys .now) (a .key) (a .others .now) (a .other) (l .i) (w .0 .left)) (l .inv .1)))) (c .if1 .came))
 
--- src/waiting.rt:95:1
 returns : tie.Need-returns Inv-loop μ-loop
 returns c = let a = c .before .before .args in let l = c .before .loop in less-all (areKeys (a .keys .now) (a .key) (a .others .now) (a .other)) (nth (a .first)) (length (a .keys .now)) (l .i) (a .waiting .now) (l .waiting) (l .inv .0) (c .loop-test .left) (l .inv .1)
 

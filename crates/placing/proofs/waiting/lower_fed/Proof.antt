@@ -1,11 +1,7 @@
 use Rattle.placing.proofs.waiting.lower_fed.Statement.{statement}
 use Rattle.placing.proofs.waiting.lower_fed.Tie as tie
-use Rattle.placing.proofs.waiting.lower_fed.Reads as reads
-use Rattle.placing.proofs.waiting.lower_fed.Lts as lts
 use borrow.Author.Needs.{needs}
-use Prim.Native.Nat.{ℕ, _+_, _-_, _≤_, _<_}
-use mathlib.Core.Path.{_≡_}
-use lib.ListN.{length, getD}
+use Prim.Native.Nat.{_-_, _≤_}
 use native.Mathlib.Omega.{arith}
 use Rattle.search.specs.Truth.{eq-true, eq-false}
 use Rattle.placing.specs.Less.{isInput, fed, hits, Less}
@@ -18,63 +14,48 @@ Inv-loop pairs count input first waiting₀ k₀ waiting k = (k ≤ count) × Le
 abbrev μ-loop : tie.MeasureT-loop
 μ-loop pairs count input first waiting₀ k₀ waiting k = count - k
 
--- src/waiting.rt:128:5
 loop-holds : tie.Need-loop-holds Inv-loop μ-loop
 loop-holds c = (search needs, less-none _ _ _)
 
--- src/waiting.rt:129:18
 mul-if1 : tie.Need-mul-if1 Inv-loop μ-loop
 mul-if1 c = search needs
 
--- src/waiting.rt:129:12
 shared-slice-read-if1 : tie.Need-shared-slice-read-if1 Inv-loop μ-loop
 shared-slice-read-if1 c = search needs
 
--- src/waiting.rt:130:32
 mul-output : tie.Need-mul-output Inv-loop μ-loop
 mul-output c = search needs
 
--- src/waiting.rt:130:32
 add-output : tie.Need-add-output Inv-loop μ-loop
 add-output c = search needs
 
--- src/waiting.rt:130:26
 shared-slice-read-output : tie.Need-shared-slice-read-output Inv-loop μ-loop
 shared-slice-read-output c = search needs
 
--- src/waiting.rt:130:26
 cast-output : tie.Need-cast-output Inv-loop μ-loop
 cast-output c = record { fits = omega (arith, c .before .before .before .before .before .pre .1 .1 .0 (c .before .before .before .before .loop .k) (c .before .before .before .loop-test .taken)) }
 
--- src/waiting.rt:131:21
 add-waiting : tie.Need-add-waiting Inv-loop μ-loop
 add-waiting c = record { fits = omega (arith, c .before .before .before .before .before .pre .1 .1 .0 (c .before .before .before .before .loop .k) (c .before .before .before .loop-test .taken)) }
 
--- src/waiting.rt:131:13
 element-copy-out-waiting : tie.Need-element-copy-out-waiting Inv-loop μ-loop
 element-copy-out-waiting c = c .before .before .before .before .before .pre .1 .1 .0 (c .before .before .before .before .loop .k) (c .before .before .before .loop-test .taken)
 
--- src/waiting.rt:131:13
 sub-waiting : tie.Need-sub-waiting Inv-loop μ-loop
 sub-waiting c = let a = c .before .before .before .before .before .before .args in let l = c .before .before .before .before .before .loop in lower-some (isInput (a .pairs .now) (a .input)) (fed (a .pairs .now) (a .first)) (l .k) (a .count) (a .waiting .now) (l .waiting) (c .before .before .before .before .loop-test .taken) (eq-true _ _ (c .before .before .if1 .taken)) (c .before .before .before .before .before .before .pre .1 .1 .1) (l .inv .1)
 
--- src/waiting.rt:131:13
 element-write-waiting : tie.Need-element-write-waiting Inv-loop μ-loop
 element-write-waiting c = c .before .before .before .before .before .before .pre .1 .1 .0 (c .before .before .before .before .before .loop .k) (c .before .before .before .before .loop-test .taken)
 
--- src/waiting.rt:133:9
 add-k : tie.Need-add-k Inv-loop μ-loop
 add-k c = search needs
 
--- src/waiting.rt:128:5
 loop-less : tie.Need-loop-less Inv-loop μ-loop
 loop-less c = search needs
 
--- src/waiting.rt:128:5
 loop-again : tie.Need-loop-again Inv-loop μ-loop
 loop-again c = let a = c .before .before .before .before .args in let l = c .before .before .before .loop in (search needs, ⊎-elim (λ w. rw (w .3) (lower-hit (isInput (a .pairs .now) (a .input)) (fed (a .pairs .now) (a .first)) (l .k) (a .count) (a .waiting .now) (l .waiting) (c .before .before .loop-test .taken) (eq-true _ _ (w .0 .taken)) (omega (arith, c .before .before .before .before .pre .1 .1 .0 (l .k) (c .before .before .loop-test .taken))) (c .before .before .before .before .pre .1 .1 .1) (l .inv .1))) (λ w. rw (w .1) (less-miss (isInput (a .pairs .now) (a .input)) (fed (a .pairs .now) (a .first)) (l .k) (a .waiting .now) (l .waiting) (eq-false _ _ (w .0 .left)) (l .inv .1))) (c .if1 .came))
 
--- src/waiting.rt:118:1
 returns : tie.Need-returns Inv-loop μ-loop
 returns c = let a = c .before .before .args in let l = c .before .loop in less-all (isInput (a .pairs .now) (a .input)) (fed (a .pairs .now) (a .first)) (a .count) (l .k) (a .waiting .now) (l .waiting) (l .inv .0) (c .loop-test .left) (l .inv .1)
 

@@ -1,11 +1,8 @@
 use Rattle.placing.proofs.waiting.raise_called.Statement.{statement}
 use Rattle.placing.proofs.waiting.raise_called.Tie as tie
-use Rattle.placing.proofs.waiting.raise_called.Reads as reads
-use Rattle.placing.proofs.waiting.raise_called.Lts as lts
 use borrow.Author.Needs.{needs}
-use Prim.Native.Nat.{ℕ, _+_, _-_, _≤_, _<_}
-use mathlib.Core.Path.{_≡_}
-use lib.ListN.{length, getD}
+use Prim.Native.Nat.{_-_, _≤_}
+use lib.ListN.{length}
 use native.Mathlib.Omega.{arith}
 use Rattle.search.specs.Truth.{eq-true, eq-false}
 use Rattle.placing.specs.Less.{isKey, called, hits, Less}
@@ -18,47 +15,36 @@ Inv-loop keys key calls waiting₀ i₀ waiting i = (i ≤ (length keys)) × Les
 abbrev μ-loop : tie.MeasureT-loop
 μ-loop keys key calls waiting₀ i₀ waiting i = (length keys) - i
 
--- src/waiting.rt:51:5
 loop-holds : tie.Need-loop-holds Inv-loop μ-loop
 loop-holds c = (search needs, less-none _ _ _)
 
--- src/waiting.rt:52:12
 shared-slice-read-if1 : tie.Need-shared-slice-read-if1 Inv-loop μ-loop
 shared-slice-read-if1 c = search needs
 
--- src/waiting.rt:53:21
 shared-slice-read-waiting : tie.Need-shared-slice-read-waiting Inv-loop μ-loop
 shared-slice-read-waiting c = search needs
 
--- src/waiting.rt:53:21
 cast-waiting : tie.Need-cast-waiting Inv-loop μ-loop
 cast-waiting c = record { fits = omega (arith, c .before .before .before .before .before .pre .1 .1 .0 (c .before .before .before .before .loop .i) (c .before .before .before .loop-test .taken)) }
 
--- src/waiting.rt:53:13
 element-copy-out-waiting : tie.Need-element-copy-out-waiting Inv-loop μ-loop
 element-copy-out-waiting c = let a = c .before .before .before .before .before .args in let l = c .before .before .before .before .loop in c .before .before .before .before .before .pre .1 .1 .0 (l .i) (c .before .before .before .loop-test .taken)
 
--- src/waiting.rt:53:13
 add-waiting : tie.Need-add-waiting Inv-loop μ-loop
 add-waiting c = let a = c .before .before .before .before .before .before .args in let l = c .before .before .before .before .before .loop in record { fits = omega (arith, raise-room (isKey (a .keys .now) (a .key)) (called (a .calls .now)) (l .i) (length (a .keys .now)) (l .waiting) (a .waiting .now) (c .before .before .before .before .loop-test .taken) (eq-true _ _ (c .before .before .if1 .taken)) (c .before .before .before .before .before .before .pre .1 .1 .1) (l .inv .1)) }
 
--- src/waiting.rt:53:13
 element-write-waiting : tie.Need-element-write-waiting Inv-loop μ-loop
 element-write-waiting c = let a = c .before .before .before .before .before .before .args in let l = c .before .before .before .before .before .loop in c .before .before .before .before .before .before .pre .1 .1 .0 (l .i) (c .before .before .before .before .loop-test .taken)
 
--- src/waiting.rt:55:9
 add-i : tie.Need-add-i Inv-loop μ-loop
 add-i c = search needs
 
--- src/waiting.rt:51:5
 loop-less : tie.Need-loop-less Inv-loop μ-loop
 loop-less c = search needs
 
--- src/waiting.rt:51:5
 loop-again : tie.Need-loop-again Inv-loop μ-loop
 loop-again c = let a = c .before .before .before .before .args in let l = c .before .before .before .loop in (search needs, ⊎-elim (λ w. rw (w .3) (raise-hit (isKey (a .keys .now) (a .key)) (called (a .calls .now)) (l .i) (l .waiting) (a .waiting .now) (eq-true _ _ (w .0 .taken)) (omega (arith, c .before .before .before .before .pre .1 .1 .0 (l .i) (c .before .before .loop-test .taken))) (l .inv .1))) (λ w. rw (w .1) (less-miss (isKey (a .keys .now) (a .key)) (called (a .calls .now)) (l .i) (l .waiting) (a .waiting .now) (eq-false _ _ (w .0 .left)) (l .inv .1))) (c .if1 .came))
 
--- src/waiting.rt:40:1
 returns : tie.Need-returns Inv-loop μ-loop
 returns c = let a = c .before .before .args in let l = c .before .loop in less-all (isKey (a .keys .now) (a .key)) (called (a .calls .now)) (length (a .keys .now)) (l .i) (l .waiting) (a .waiting .now) (l .inv .0) (c .loop-test .left) (l .inv .1)
 

@@ -1,36 +1,27 @@
 use borrow.Author.Needs.{needs}
 use Rattle.sorter.proofs.back.keeps_step.Statement.{statement}
 use Rattle.sorter.proofs.back.keeps_step.Tie as tie
-use Rattle.sorter.proofs.back.keeps_step.Reads as reads
-use Rattle.sorter.proofs.back.keeps_step.Lts as lts
-use mathlib.Core.Path.{_≡_, refl}
+use mathlib.Core.Path.{refl}
 use Rattle.sorter.proofs.Before.{keeps-other, keeps-delayed, keeps-mark}
 
--- src/back.rt:36:8
 shared-slice-read-if1 : tie.Need-shared-slice-read-if1
 shared-slice-read-if1 c = search needs
 
--- src/back.rt:37:9
 returns : tie.Need-returns
 returns c = let a = c .before .before .args in keeps-other (a .owners .now) (a .kinds .now) (a .unit) (a .x) _ (c .if1 .taken)
 
--- src/back.rt:39:8
 shared-slice-read-if2 : tie.Need-shared-slice-read-if2
 shared-slice-read-if2 c = search needs
 
--- src/back.rt:40:9
 returns-2 : tie.Need-returns-2
 returns-2 c = let a = c .before .before .before .before .args in keeps-delayed (a .owners .now) (a .kinds .now) (a .unit) (a .x) _ (c .if2 .taken)
 
--- src/back.rt:42:11
 add-result : tie.Need-add-result
 add-result c = search needs
 
--- src/back.rt:42:5
 element-copy-out-result : tie.Need-element-copy-out-result
 element-copy-out-result c = search needs
 
--- src/back.rt:29:1
 returns-3 : tie.Need-returns-3
 returns-3 c = let a = c .before .before .before .before .before .args in keeps-mark (a .owners .now) (a .kinds .now) (a .unit) (a .x) _ _ (c .before .before .before .if1 .left) (c .before .if2 .left) refl
 

@@ -1,58 +1,43 @@
 use borrow.Author.Needs.{needs}
 use Rattle.sorter.proofs.back.lower_feeding.Statement.{statement}
 use Rattle.sorter.proofs.back.lower_feeding.Tie as tie
-use Rattle.sorter.proofs.back.lower_feeding.Reads as reads
-use Rattle.sorter.proofs.back.lower_feeding.Lts as lts
-use Prim.Native.Nat.{_+_, _*_, _≤_, _<_}
-use mathlib.Core.Path.{_≡_, refl}
+use Prim.Native.Nat.{_*_}
 use native.Mathlib.Omega.{arith}
 use Rattle.sorter.proofs.Before.{feeding-other, feeding-higher, feeding-done, feeding-lower}
 
--- src/back.rt:71:14
 mul-if1 : tie.Need-mul-if1
 mul-if1 c = search needs
 
--- src/back.rt:71:14
 add-if1 : tie.Need-add-if1
 add-if1 c = search needs
 
--- src/back.rt:71:8
 shared-slice-read-if1 : tie.Need-shared-slice-read-if1
 shared-slice-read-if1 c = search needs
 
--- src/back.rt:72:9
 returns : tie.Need-returns
 returns c = let a = c .before .before .args in feeding-other (a .pairs .now) (a .k) (a .output) (a .first) (a .marks .now) (a .best) (c .if1 .taken)
 
--- src/back.rt:74:23
 mul-input : tie.Need-mul-input
 mul-input c = search needs
 
--- src/back.rt:74:17
 shared-slice-read-input : tie.Need-shared-slice-read-input
 shared-slice-read-input c = search needs
 
--- src/back.rt:74:17
 cast-input : tie.Need-cast-input
 cast-input c = record { fits = omega (arith, c .shared-slice-known2 .given (2 * c .before .before .before .args .k)) }
 
--- src/back.rt:76:9
 returns-2 : tie.Need-returns-2
 returns-2 c = let a = c .before .before .before .before .args in feeding-higher (a .pairs .now) (a .k) (a .output) (a .first) (a .marks .now) (a .best) (c .before .before .if1 .left) (c .if2 .taken)
 
--- src/back.rt:78:14
 add-if3 : tie.Need-add-if3
 add-if3 c = search needs
 
--- src/back.rt:78:8
 element-copy-out-if3 : tie.Need-element-copy-out-if3
 element-copy-out-if3 c = search needs
 
--- src/back.rt:79:9
 returns-3 : tie.Need-returns-3
 returns-3 c = let a = c .before .before .before .before .before .before .args in feeding-done (a .pairs .now) (a .k) (a .output) (a .first) (a .marks .now) (a .best) (c .before .before .before .before .if1 .left) (c .if3 .taken)
 
--- src/back.rt:66:1
 returns-4 : tie.Need-returns-4
 returns-4 c = let a = c .before .before .before .before .before .before .args in feeding-lower (a .pairs .now) (a .k) (a .output) (a .first) (a .marks .now) (a .best) (c .before .before .before .before .if1 .left) (c .before .before .if2 .left) (c .if3 .left)
 

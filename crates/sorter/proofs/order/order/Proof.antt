@@ -1,98 +1,79 @@
 use borrow.Author.Needs.{needs}
 use Rattle.sorter.proofs.order.order.Statement.{statement}
 use Rattle.sorter.proofs.order.order.Tie as tie
-use Rattle.sorter.proofs.order.order.Reads as reads
-use Rattle.sorter.proofs.order.order.Lts as lts
-use Rattle.placing.proofs.place.place_all.Reads as place-all-reads
-use Rattle.sorter.proofs.order.show_cycle.Reads as show-cycle-reads
-use Rattle.sorter.proofs.show.write_turned.Reads as write-turned-reads
-use Rattle.table.proofs.parts.input_count.Reads as input-count-reads
-use Rattle.table.proofs.parts.output_count.Reads as output-count-reads
-use Rattle.table.proofs.parts.unit_count.Reads as unit-count-reads
+use Prim.Native.Nat.{_+_}
+use mathlib.Core.Path.{refl, sym, ap, ap₂, _∙_}
+use native.Mathlib.Omega.{arith}
+use lib.ListN.{length}
+use lib.Seq.{length-take-le}
+use Rattle.search.specs.Front.{fronted}
+use Rattle.table.specs.Checked.{passed-sound, few-calls}
+use Rattle.placing.specs.Placing.{Outcome}
+use Rattle.sorter.specs.Demand.{ordering-unsound}
+use Rattle.sorter.proofs.Joined.{place-is, not-refused, refused, refused-answer, calls-are, calls-long, placed-most, order-short, order-all, order-none, order-cycle, turned-none}
 
--- src/order.rt:68:35
 slice-aggregate-place-all : tie.Need-slice-aggregate-place-all
 slice-aggregate-place-all c = search needs
 
--- src/order.rt:68:9
 place-all-requires : tie.Need-place-all-requires
 place-all-requires c κs = search needs
 
--- src/order.rt:70:9
 returns : tie.Need-returns
-returns c = ?
+returns c = let t = c .before .before .before .before .before .before .before .args .table .now in let m = length (c .before .before .before .before .before .before .before .args .out .now) in (refused-answer t _ (c .before .before .before .place-all .ensures .0) m (c .if1 .taken), rw (ordering-unsound t m (refused t _ (c .before .before .before .place-all .ensures .0) (c .if1 .taken))))
 
--- src/order.rt:73:17
 unit-count-requires : tie.Need-unit-count-requires
 unit-count-requires c κs = search needs
 
--- src/order.rt:73:37
 output-count-requires : tie.Need-output-count-requires
 output-count-requires c κs = search needs
 
--- src/order.rt:73:17
 add-count : tie.Need-add-count
 add-count c = search needs
 
--- src/order.rt:73:59
 input-count-requires : tie.Need-input-count-requires
 input-count-requires c κs = search needs
 
--- src/order.rt:73:17
 add-count-2 : tie.Need-add-count-2
 add-count-2 c = search needs
 
--- src/order.rt:75:9
 returns-2 : tie.Need-returns-2
-returns-2 c = ?
+returns-2 c = let t = c .before .before .before .before .before .before .before .before .before .before .before .args .table .now in let z = not-refused t _ (c .before .before .before .before .before .before .before .place-all .ensures .0) (c .before .before .before .before .if1 .left) in let n = ap₂ _+_ (ap₂ _+_ (c .before .before .before .unit-count .ensures .0) (c .before .before .output-count .ensures .0)) (c .before .input-count .ensures .0) in let o = order-short t (length (c .before .before .before .before .before .before .before .before .before .before .before .args .out .now)) _ z n (c .if2 .taken) in (rw o, rw o)
 
--- src/order.rt:81:22
 array-share-prefix-calls : tie.Need-array-share-prefix-calls
-array-share-prefix-calls c = ?
+array-share-prefix-calls c = let t = c .before .before .before .before .before .before .before .before .before .before .before .before .args .table .now in let z = not-refused t _ (c .before .before .before .before .before .before .before .before .place-all .ensures .0) (c .before .before .before .before .before .if1 .left) in let n = ap₂ _+_ (ap₂ _+_ (c .before .before .before .before .unit-count .ensures .0) (c .before .before .before .output-count .ensures .0)) (c .before .before .input-count .ensures .0) in omega (arith, n, calls-long t _ _ z refl (c .before .before .before .before .before .before .before .before .place-all .ensures .1), few-calls t (passed-sound t z))
 
--- src/order.rt:81:22
 slice-aggregate-write-turned : tie.Need-slice-aggregate-write-turned
-slice-aggregate-write-turned c = ?
+slice-aggregate-write-turned c = let t = c .before .before .before .before .before .before .before .before .before .before .before .before .before .args .table .now in let z = not-refused t _ (c .before .before .before .before .before .before .before .before .before .place-all .ensures .0) (c .before .before .before .before .before .before .if1 .left) in let n = ap₂ _+_ (ap₂ _+_ (c .before .before .before .before .before .unit-count .ensures .0) (c .before .before .before .before .output-count .ensures .0)) (c .before .before .before .input-count .ensures .0) in sym (length-take-le _ _ (omega (arith, n, calls-long t _ _ z refl (c .before .before .before .before .before .before .before .before .before .place-all .ensures .1), few-calls t (passed-sound t z))))
 
--- src/order.rt:81:9
 write-turned-requires : tie.Need-write-turned-requires
-write-turned-requires c κs = ?
+write-turned-requires c κs = let t = c .before .before .before .before .before .before .before .before .before .before .before .before .before .before .args .table .now in let z = not-refused t _ (c .before .before .before .before .before .before .before .before .before .before .place-all .ensures .0) (c .before .before .before .before .before .before .before .if1 .left) in let n = ap₂ _+_ (ap₂ _+_ (c .before .before .before .before .before .before .unit-count .ensures .0) (c .before .before .before .before .before .output-count .ensures .0)) (c .before .before .before .before .input-count .ensures .0) in let l = length-take-le (c .before .before .before .before .before .before .unit-count .result + c .before .before .before .before .before .output-count .result + c .before .before .before .before .input-count .result) (c .before .before .before .before .before .before .before .before .before .before .place-all .last .1 .0) (omega (arith, n, calls-long t _ _ z refl (c .before .before .before .before .before .before .before .before .before .before .place-all .ensures .1), few-calls t (passed-sound t z))) in (omega (arith, l, n, passed-sound t z .counted .units-some), omega (arith, l, c .before .before .before .if2 .left))
 
--- src/order.rt:82:9
 same-length : tie.Need-same-length
 same-length c = search needs
 
--- src/order.rt:82:9
 returns-3 : tie.Need-returns-3
-returns-3 c = ?
+returns-3 c = let t = c .before .before .before .before .before .before .before .before .before .before .before .before .before .before .before .before .before .args .table .now in let z = not-refused t _ (c .before .before .before .before .before .before .before .before .before .before .before .before .before .place-all .ensures .0) (c .before .before .before .before .before .before .before .before .before .before .if1 .left) in let n = ap₂ _+_ (ap₂ _+_ (c .before .before .before .before .before .before .before .before .before .unit-count .ensures .0) (c .before .before .before .before .before .before .before .before .output-count .ensures .0)) (c .before .before .before .before .before .before .before .input-count .ensures .0) in let q = sym (place-is t _ (c .before .before .before .before .before .before .before .before .before .before .before .before .before .place-all .ensures .0) z) ∙ c .before .before .before .before .before .if3 .taken in let o = order-all t (length (c .before .before .before .before .before .before .before .before .before .before .before .before .before .before .before .before .before .args .out .now)) _ z n (c .before .before .before .before .before .before .if2 .left) q in (sym (ap (λ (r : Outcome). r .answer) o), c .before .before .write-turned .ensures ∙ ap (λ l. fronted l (c .before .before .before .before .before .before .before .before .before .before .before .before .before .before .before .before .before .args .out .now)) (turned-none _ ∙ calls-are t _ _ _ z (c .before .before .before .before .before .before .before .before .before .before .before .before .before .place-all .ensures .1) (sym q) ∙ sym (ap (λ (r : Outcome). r .bytes) o)))
 
--- src/order.rt:87:43
 array-share-prefix-calls-2 : tie.Need-array-share-prefix-calls-2
-array-share-prefix-calls-2 c = ?
+array-share-prefix-calls-2 c = let t = c .before .before .before .before .before .before .before .before .before .before .before .before .args .table .now in let z = not-refused t _ (c .before .before .before .before .before .before .before .before .place-all .ensures .0) (c .before .before .before .before .before .if1 .left) in omega (arith, place-is t _ (c .before .before .before .before .before .before .before .before .place-all .ensures .0) z, placed-most t, calls-long t _ _ z refl (c .before .before .before .before .before .before .before .before .place-all .ensures .1), few-calls t (passed-sound t z))
 
--- src/order.rt:87:43
 slice-aggregate-show-cycle : tie.Need-slice-aggregate-show-cycle
-slice-aggregate-show-cycle c = ?
+slice-aggregate-show-cycle c = let t = c .before .before .before .before .before .before .before .before .before .before .before .before .before .args .table .now in let z = not-refused t _ (c .before .before .before .before .before .before .before .before .before .place-all .ensures .0) (c .before .before .before .before .before .before .if1 .left) in sym (length-take-le _ _ (omega (arith, place-is t _ (c .before .before .before .before .before .before .before .before .before .place-all .ensures .0) z, placed-most t, calls-long t _ _ z refl (c .before .before .before .before .before .before .before .before .before .place-all .ensures .1), few-calls t (passed-sound t z))))
 
--- src/order.rt:87:9
 show-cycle-requires : tie.Need-show-cycle-requires
-show-cycle-requires c κs = ?
+show-cycle-requires c κs = let t = c .before .before .before .before .before .before .before .before .before .before .before .before .before .before .args .table .now in let z = not-refused t _ (c .before .before .before .before .before .before .before .before .before .before .place-all .ensures .0) (c .before .before .before .before .before .before .before .if1 .left) in let n = ap₂ _+_ (ap₂ _+_ (c .before .before .before .before .before .before .unit-count .ensures .0) (c .before .before .before .before .before .output-count .ensures .0)) (c .before .before .before .before .input-count .ensures .0) in (passed-sound t z, (n, (calls-are t _ _ _ z (c .before .before .before .before .before .before .before .before .before .before .place-all .ensures .1) (place-is t _ (c .before .before .before .before .before .before .before .before .before .before .place-all .ensures .0) z), c .before .before .before .if2 .left)))
 
--- src/order.rt:89:9
 same-length-2 : tie.Need-same-length-2
 same-length-2 c = search needs
 
--- src/order.rt:89:9
 returns-4 : tie.Need-returns-4
-returns-4 c = ?
+returns-4 c = let t = c .before .before .before .before .before .before .before .before .before .before .before .before .before .before .before .before .before .before .args .table .now in let z = not-refused t _ (c .before .before .before .before .before .before .before .before .before .before .before .before .before .before .place-all .ensures .0) (c .before .before .before .before .before .before .before .before .before .before .before .if1 .left) in let n = ap₂ _+_ (ap₂ _+_ (c .before .before .before .before .before .before .before .before .before .before .unit-count .ensures .0) (c .before .before .before .before .before .before .before .before .before .output-count .ensures .0)) (c .before .before .before .before .before .before .before .before .input-count .ensures .0) in let o = order-none t (length (c .before .before .before .before .before .before .before .before .before .before .before .before .before .before .before .before .before .before .args .out .now)) _ z n (c .before .before .before .before .before .before .before .if2 .left) (λ y. c .before .before .before .before .before .before .if3 .left (place-is t _ (c .before .before .before .before .before .before .before .before .before .before .before .before .before .before .place-all .ensures .0) z ∙ y)) _ (c .before .before .before .show-cycle .ensures .0) (c .if4 .taken) in (sym (ap (λ (r : Outcome). r .answer) o), c .before .before .before .show-cycle .ensures .1 ∙ ap (λ l. fronted l (c .before .before .before .before .before .before .before .before .before .before .before .before .before .before .before .before .before .before .args .out .now)) (sym (ap (λ (r : Outcome). r .bytes) o)))
 
--- src/order.rt:62:1
 same-length-3 : tie.Need-same-length-3
 same-length-3 c = search needs
 
--- src/order.rt:62:1
 returns-5 : tie.Need-returns-5
-returns-5 c = ?
+returns-5 c = let t = c .before .before .before .before .before .before .before .before .before .before .before .before .before .before .before .before .before .before .args .table .now in let z = not-refused t _ (c .before .before .before .before .before .before .before .before .before .before .before .before .before .before .place-all .ensures .0) (c .before .before .before .before .before .before .before .before .before .before .before .if1 .left) in let n = ap₂ _+_ (ap₂ _+_ (c .before .before .before .before .before .before .before .before .before .before .unit-count .ensures .0) (c .before .before .before .before .before .before .before .before .before .output-count .ensures .0)) (c .before .before .before .before .before .before .before .before .input-count .ensures .0) in let o = order-cycle t (length (c .before .before .before .before .before .before .before .before .before .before .before .before .before .before .before .before .before .before .args .out .now)) _ z n (c .before .before .before .before .before .before .before .if2 .left) (λ y. c .before .before .before .before .before .before .if3 .left (place-is t _ (c .before .before .before .before .before .before .before .before .before .before .before .before .before .before .place-all .ensures .0) z ∙ y)) _ (c .before .before .before .show-cycle .ensures .0) (c .if4 .left) in (sym (ap (λ (r : Outcome). r .answer) o), c .before .before .before .show-cycle .ensures .1 ∙ ap (λ l. fronted l (c .before .before .before .before .before .before .before .before .before .before .before .before .before .before .before .before .before .before .args .out .now)) (sym (ap (λ (r : Outcome). r .bytes) o)))
 
 pub order-spec : {M : Type 1} → statement M
 order-spec =

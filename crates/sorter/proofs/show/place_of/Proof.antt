@@ -1,10 +1,7 @@
 use Rattle.sorter.proofs.show.place_of.Statement.{statement}
 use Rattle.sorter.proofs.show.place_of.Tie as tie
-use Rattle.sorter.proofs.show.place_of.Reads as reads
-use Rattle.sorter.proofs.show.place_of.Lts as lts
 use borrow.Author.Needs.{needs}
-use Prim.Native.Nat.{ℕ, _+_, _-_, _≤_, _<_}
-use mathlib.Core.Path.{_≡_}
+use Prim.Native.Nat.{ℕ, _-_, _≤_, _<_}
 use mathlib.Core.Bool.{not}
 use native.Mathlib.Omega.{arith}
 use lib.Dec.{T}
@@ -20,31 +17,24 @@ Inv-loop bytes byte i₀ i = (i ≤ length bytes) × ((k : ℕ) → k < i → T 
 abbrev μ-loop : tie.MeasureT-loop
 μ-loop bytes byte i₀ i = length bytes - i
 
--- src/show.rt:15:5
 loop-holds : tie.Need-loop-holds Inv-loop μ-loop
 loop-holds c = (search needs, λ k h. absurd (omega arith))
 
--- src/show.rt:16:12
 shared-slice-read-if1 : tie.Need-shared-slice-read-if1 Inv-loop μ-loop
 shared-slice-read-if1 c = search needs
 
--- src/show.rt:17:13
 returns : tie.Need-returns Inv-loop μ-loop
 returns c = found (isKey (c .before .before .before .before .args .bytes .now) (c .before .before .before .before .args .byte)) (length (c .before .before .before .before .args .bytes .now)) (c .before .before .before .loop .i) (c .before .before .loop-test .taken) (c .before .before .before .loop .inv .1) (eq-true _ _ (c .if1 .taken))
 
--- src/show.rt:19:9
 add-i : tie.Need-add-i Inv-loop μ-loop
 add-i c = search needs
 
--- src/show.rt:15:5
 loop-less : tie.Need-loop-less Inv-loop μ-loop
 loop-less c = search needs
 
--- src/show.rt:15:5
 loop-again : tie.Need-loop-again Inv-loop μ-loop
 loop-again c = (search needs, below-more (λ k. T (not (isKey (c .before .before .before .before .args .bytes .now) (c .before .before .before .before .args .byte) k))) (c .before .before .before .loop .i) (c .before .before .before .loop .inv .1) (eq-false _ _ (c .if1 .left)))
 
--- src/show.rt:11:1
 returns-2 : tie.Need-returns-2 Inv-loop μ-loop
 returns-2 c = not-found (isKey (c .before .before .args .bytes .now) (c .before .before .args .byte)) (length (c .before .before .args .bytes .now)) (c .before .loop .i) (c .loop-test .left) (c .before .loop .inv .0) (c .before .loop .inv .1)
 

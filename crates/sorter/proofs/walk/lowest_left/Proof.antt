@@ -1,10 +1,7 @@
 use Rattle.sorter.proofs.walk.lowest_left.Statement.{statement}
 use Rattle.sorter.proofs.walk.lowest_left.Tie as tie
-use Rattle.sorter.proofs.walk.lowest_left.Reads as reads
-use Rattle.sorter.proofs.walk.lowest_left.Lts as lts
 use borrow.Author.Needs.{needs}
-use Prim.Native.Nat.{ℕ, _+_, _-_, _≤_, _<_}
-use mathlib.Core.Path.{_≡_}
+use Prim.Native.Nat.{ℕ, _-_, _≤_, _<_}
 use mathlib.Core.Bool.{not}
 use native.Mathlib.Omega.{arith}
 use lib.Dec.{T}
@@ -20,31 +17,24 @@ Inv-loop marks count c₀ c = (c ≤ count) × ((k : ℕ) → k < c → T (not (
 abbrev μ-loop : tie.MeasureT-loop
 μ-loop marks count c₀ c = count - c
 
--- src/walk.rt:40:5
 loop-holds : tie.Need-loop-holds Inv-loop μ-loop
 loop-holds c = (search needs, λ k h. absurd (omega arith))
 
--- src/walk.rt:41:12
 element-copy-out-if1 : tie.Need-element-copy-out-if1 Inv-loop μ-loop
 element-copy-out-if1 c = search needs
 
--- src/walk.rt:42:13
 returns : tie.Need-returns Inv-loop μ-loop
 returns c = found (λ k. not (marked (c .before .before .before .before .args .marks .now) k)) (c .before .before .before .before .args .count) (c .before .before .before .loop .c) (c .before .before .loop-test .taken) (c .before .before .before .loop .inv .1) (unmarked (c .before .before .before .before .args .marks .now) (c .before .before .before .loop .c) (c .if1 .taken))
 
--- src/walk.rt:44:9
 add-c : tie.Need-add-c Inv-loop μ-loop
 add-c c = search needs
 
--- src/walk.rt:40:5
 loop-less : tie.Need-loop-less Inv-loop μ-loop
 loop-less c = search needs
 
--- src/walk.rt:40:5
 loop-again : tie.Need-loop-again Inv-loop μ-loop
 loop-again c = (search needs, below-more (λ k. T (not (not (marked (c .before .before .before .before .args .marks .now) k)))) (c .before .before .before .loop .c) (c .before .before .before .loop .inv .1) (twice (marked (c .before .before .before .before .args .marks .now) (c .before .before .before .loop .c)) (is-marked (c .before .before .before .before .args .marks .now) (c .before .before .before .loop .c) (c .if1 .left))))
 
--- src/walk.rt:35:1
 returns-2 : tie.Need-returns-2 Inv-loop μ-loop
 returns-2 c = not-found (λ k. not (marked (c .before .before .args .marks .now) k)) (c .before .before .args .count) (c .before .loop .c) (c .loop-test .left) (c .before .loop .inv .0) (c .before .loop .inv .1)
 

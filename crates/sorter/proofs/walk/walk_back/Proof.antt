@@ -1,20 +1,8 @@
 use Rattle.sorter.proofs.walk.walk_back.Statement.{statement}
 use Rattle.sorter.proofs.walk.walk_back.Tie as tie
-use Rattle.sorter.proofs.walk.walk_back.Reads as reads
-use Rattle.sorter.proofs.walk.walk_back.Lts as lts
-use Rattle.sorter.proofs.back.lowest_before.Reads as lowest-before-reads
-use Rattle.sorter.proofs.walk.lowest_left.Reads as lowest-left-reads
-use borrow.Author.Needs.{needs}
-use Prim.Native.Nat.{ℕ, _+_, _-_, _≤_, _<_}
-use mathlib.Core.Path.{_≡_, refl, sym, subst, _∙_}
+use mathlib.Core.Path.{refl}
 use native.Mathlib.Omega.{arith}
-use lib.ListN.{length, getD}
-use Rattle.search.specs.Least.{leastFrom, lowest-is}
-use Rattle.table.specs.Packed.{shapeOf}
 use Rattle.table.specs.Checked.{few-calls}
-use Rattle.calls.specs.Precedence.{precedes}
-use Rattle.orders.specs.Walk.{lowestLeft}
-use Rattle.placing.specs.Placing.{callCount}
 use Rattle.placing.proofs.Stage.{zeros}
 use Rattle.sorter.specs.Marks.{marked}
 use Rattle.sorter.proofs.Trails.{Trail, trail-starts, trail-room, trail-on, trail-met, trail-lost, left-is}
@@ -25,51 +13,39 @@ Inv-loop table count marks path₀ seen₀ at₀ call₀ path seen at call = Tra
 abbrev μ-loop : tie.MeasureT-loop
 μ-loop table count marks path₀ seen₀ at₀ call₀ path seen at call = at
 
--- src/walk.rt:58:9
 lowest-left-requires : tie.Need-lowest-left-requires Inv-loop μ-loop
 lowest-left-requires c κs = omega (arith, c .before .pre .1 .0, few-calls (c .before .args .table .now) (c .before .pre .0))
 
--- src/walk.rt:59:5
 loop-holds : tie.Need-loop-holds Inv-loop μ-loop
 loop-holds c = trail-starts (c .before .before .args .table .now) (marked (c .before .before .args .marks .now)) (c .before .before .args .path .now) _ _ (c .before .before .pre .1 .1) refl (zeros 224) (left-is (c .before .before .args .table .now) (c .before .before .args .marks .now) _ _ (c .before .before .pre .1 .0) (c .lowest-left .ensures))
 
--- src/walk.rt:60:12
 array-read-if1 : tie.Need-array-read-if1 Inv-loop μ-loop
 array-read-if1 c = omega (arith, c .loop-test .taken, c .before .before .before .before .pre .1 .0, few-calls (c .before .before .before .before .args .table .now) (c .before .before .before .before .pre .0))
 
--- src/walk.rt:61:13
 returns : tie.Need-returns Inv-loop μ-loop
 returns c = trail-met (c .before .before .before .before .before .args .table .now) (marked (c .before .before .before .before .before .args .marks .now)) (few-calls (c .before .before .before .before .before .args .table .now) (c .before .before .before .before .before .pre .0)) _ _ _ _ (c .before .before .loop .inv) (omega (arith, c .before .loop-test .taken, c .before .before .before .before .before .pre .1 .0)) (c .if1 .taken)
 
--- src/walk.rt:66:9
 sub-at : tie.Need-sub-at Inv-loop μ-loop
 sub-at c = trail-room (c .before .before .before .before .before .args .table .now) (marked (c .before .before .before .before .before .args .marks .now)) (few-calls (c .before .before .before .before .before .args .table .now) (c .before .before .before .before .before .pre .0)) _ _ _ _ (c .before .before .loop .inv) (omega (arith, c .before .loop-test .taken, c .before .before .before .before .before .pre .1 .0)) (c .if1 .left)
 
--- src/walk.rt:67:20
 cast-path : tie.Need-cast-path Inv-loop μ-loop
 cast-path c = let f = few-calls (c .before .before .before .before .before .args .table .now) (c .before .before .before .before .before .pre .0) in record { fits = omega (arith, c .before .loop-test .taken, c .before .before .before .before .before .pre .1 .0) }
 
--- src/walk.rt:67:9
 element-write-path : tie.Need-element-write-path Inv-loop μ-loop
 element-write-path c = omega (arith, c .before .before .loop .inv .place, trail-room (c .before .before .before .before .before .args .table .now) (marked (c .before .before .before .before .before .args .marks .now)) (few-calls (c .before .before .before .before .before .args .table .now) (c .before .before .before .before .before .pre .0)) _ _ _ _ (c .before .before .loop .inv) (omega (arith, c .before .loop-test .taken, c .before .before .before .before .before .pre .1 .0)) (c .if1 .left))
 
--- src/walk.rt:68:9
 array-write-seen : tie.Need-array-write-seen Inv-loop μ-loop
 array-write-seen c = omega (arith, c .before .loop-test .taken, c .before .before .before .before .before .pre .1 .0, few-calls (c .before .before .before .before .before .args .table .now) (c .before .before .before .before .before .pre .0))
 
--- src/walk.rt:69:9
 lowest-before-requires : tie.Need-lowest-before-requires Inv-loop μ-loop
 lowest-before-requires c κs = (c .before .before .before .before .before .pre .0, omega (arith, c .before .loop-test .taken, c .before .before .before .before .before .pre .1 .0))
 
--- src/walk.rt:59:5
 loop-less : tie.Need-loop-less Inv-loop μ-loop
 loop-less c = omega (arith, trail-room (c .before .before .before .before .before .before .args .table .now) (marked (c .before .before .before .before .before .before .args .marks .now)) (few-calls (c .before .before .before .before .before .before .args .table .now) (c .before .before .before .before .before .before .pre .0)) _ _ _ _ (c .before .before .before .loop .inv) (omega (arith, c .before .before .loop-test .taken, c .before .before .before .before .before .before .pre .1 .0)) (c .before .if1 .left))
 
--- src/walk.rt:59:5
 loop-again : tie.Need-loop-again Inv-loop μ-loop
 loop-again c = trail-on (c .before .before .before .before .before .before .args .table .now) (marked (c .before .before .before .before .before .before .args .marks .now)) (few-calls (c .before .before .before .before .before .before .args .table .now) (c .before .before .before .before .before .before .pre .0)) _ _ _ _ (c .before .before .before .loop .inv) _ (omega (arith, c .before .before .loop-test .taken, c .before .before .before .before .before .before .pre .1 .0)) (c .before .if1 .left) (c .lowest-before .ensures)
 
--- src/walk.rt:50:1
 returns-2 : tie.Need-returns-2 Inv-loop μ-loop
 returns-2 c = trail-lost (c .before .before .before .before .args .table .now) (marked (c .before .before .before .before .args .marks .now)) (few-calls (c .before .before .before .before .args .table .now) (c .before .before .before .before .pre .0)) _ _ _ _ (c .before .loop .inv) (omega (arith, c .loop-test .left, c .before .before .before .before .pre .1 .0))
 
