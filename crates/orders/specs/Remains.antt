@@ -6,7 +6,7 @@ use Prim.Native.Nat.{ℕ, zero, suc, _+_, _≤_, _<_}
 use native.Mathlib.Omega.{arith}
 use native.Mathlib.Decide.{decLt}
 use lib.Dec.{T, eqb}
-use lib.ListN.{length}
+use lib.ListN.{length, getD}
 use Rattle.search.specs.Truth.{T-and, not-not}
 use Rattle.search.specs.Sets.{none, add}
 use Rattle.search.specs.Least.{leastFrom, lowest-is}
@@ -34,6 +34,12 @@ both-none l = fun-ext (λ x. go (among l x))
     go : (p : Bool) → (p || false) ≡ p
     go true = refl
     go false = refl
+
+-- a list of calls with one more at its front
+pub cons-calls : (N c : ℕ) (l : List ℕ) → c < N → ((i : ℕ) → i < length l → getD l i 0 < N) → (i : ℕ)
+    → i < length (c ∷ l) → getD (c ∷ l) i 0 < N
+cons-calls N c l h f zero k = h
+cons-calls N c l h f (suc i) k = f i (omega arith)
 
 module _ (N : ℕ) (pred : ℕ → ℕ → Bool) where
   sort-count : (n : ℕ) (done : ℕ → Bool)
@@ -112,3 +118,20 @@ module _ (N : ℕ) (pred : ℕ → ℕ → Bool) where
               count-all (among (placed N pred)) N (λ i hi. not-not (among (placed N pred) i) (l .below i (omega arith))),
             ))
       ]
+
+  -- ---- nothing but calls is placed
+  sort-calls : (n : ℕ) (done : ℕ → Bool) (i : ℕ) → i < length (sort N pred n done)
+      → getD (sort N pred n done) i 0 < N
+  unfolding sort
+  sort-calls zero done i h = absurd (omega arith)
+  sort-calls (suc n) done i h = elim (decLt (nextCall N pred done) N) [
+    | no p ↦ (let h′ = (rw (sort-stop N pred (suc n) done (omega arith)) at h) in absurd (omega arith))
+    | yes p ↦
+        (let q = sort-step N pred n done p in
+        let more = add (nextCall N pred done) done in
+        rw q (cons-calls N (nextCall N pred done) (sort N pred n more) p (sort-calls n more) i (rw q at h)))
+  ]
+
+  pub placed-calls : (i : ℕ) → i < length (placed N pred) → getD (placed N pred) i 0 < N
+  unfolding placed
+  placed-calls = sort-calls N none

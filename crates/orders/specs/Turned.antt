@@ -23,13 +23,13 @@ module _ (k : ℕ) (cs : List ℕ) (h : k < length cs) where
   pub turn-length : length (turn k cs) ≡ length cs
   turn-length = simp (length-append, length-drop, length-take) (omega arith)
 
-  front : (i j : ℕ) → k + i ≡ j → j < length cs → getD (turn k cs) i 0 ≡ getD cs j 0
-  front i j e hj =
+  pub turn-front : (i j : ℕ) → k + i ≡ j → j < length cs → getD (turn k cs) i 0 ≡ getD cs j 0
+  turn-front i j e hj =
       let p : i < length (drop k cs) = simp length-drop (omega arith) in
       rw (List·getD-append (drop k cs) (take k cs) 0 i p, getD-drop, e)
 
-  back : (i j : ℕ) → k + i ≡ length cs + j → j < k → getD (turn k cs) i 0 ≡ getD cs j 0
-  back i j e hj =
+  pub turn-back : (i j : ℕ) → k + i ≡ length cs + j → j < k → getD (turn k cs) i 0 ≡ getD cs j 0
+  turn-back i j e hj =
       let p : i ≡ length (drop k cs) + j = simp length-drop (omega arith) in
       rw (p, getD-append-add, getD-take)
 
@@ -38,12 +38,12 @@ module _ (k : ℕ) (cs : List ℕ) (h : k < length cs) where
       → (j : ℕ) × (j < length cs) × ((k + i ≡ j) ⊎ (k + i ≡ length cs + j))
       × (getD (turn k cs) i 0 ≡ getD cs j 0)
   from i hi = elim (decLt (k + i) (length cs)) [
-    | yes p ↦ (k + i, p, inl refl, front i (k + i) refl p)
+    | yes p ↦ (k + i, p, inl refl, turn-front i (k + i) refl p)
     | no p ↦ (
       k + i - length cs,
       omega arith,
       inr (omega arith),
-      back i (k + i - length cs) (omega arith) (omega arith),
+      turn-back i (k + i - length cs) (omega arith) (omega arith),
     )
   ]
 
@@ -69,15 +69,15 @@ module _ (k : ℕ) (cs : List ℕ) (h : k < length cs) where
     turn-next : (i : ℕ) → suc i < length cs → T (pred (getD (turn k cs) i 0) (getD (turn k cs) (suc i) 0))
     turn-next i hi = elim (decLt (k + suc i) (length cs)) [
       | yes p ↦
-          rw (front i (k + i) refl (omega arith), front (suc i) (suc (k + i)) (omega arith) (omega arith))
+          rw (turn-front i (k + i) refl (omega arith), turn-front (suc i) (suc (k + i)) (omega arith) (omega arith))
           (cy .next (k + i) (omega arith))
       | no p ↦ elim (decLt (k + i) (length cs)) [
         | yes q ↦
-            rw (front i (k + i) refl q, back (suc i) 0 (omega arith) (omega arith))
+            rw (turn-front i (k + i) refl q, turn-back (suc i) 0 (omega arith) (omega arith))
             (joint (k + i) 0 (omega arith) refl)
         | no q ↦
             (let j = k + i - length cs in
-            rw (back i j (omega arith) (omega arith), back (suc i) (suc j) (omega arith) (omega arith))
+            rw (turn-back i j (omega arith) (omega arith), turn-back (suc i) (suc j) (omega arith) (omega arith))
             (cy .next j (omega arith)))
       ]
     ]
@@ -85,10 +85,10 @@ module _ (k : ℕ) (cs : List ℕ) (h : k < length cs) where
     turn-last : (z : ℕ) → suc z ≡ length cs → T (pred (getD (turn k cs) z 0) (getD (turn k cs) 0 0))
     turn-last z e = elim (ℕ-discrete k 0) [
       | yes p ↦
-          rw (front z z (omega arith) (omega arith), front 0 0 (omega arith) (omega arith))
+          rw (turn-front z z (omega arith) (omega arith), turn-front 0 0 (omega arith) (omega arith))
           (joint z 0 e refl)
       | no p ↦
-          rw (back z (k - 1) (omega arith) (omega arith), front 0 (suc (k - 1)) (omega arith) (omega arith))
+          rw (turn-back z (k - 1) (omega arith) (omega arith), turn-front 0 (suc (k - 1)) (omega arith) (omega arith))
           (cy .next (k - 1) (omega arith))
     ]
 
@@ -149,4 +149,4 @@ module _ (N : ℕ) (cs : List ℕ) (some : 0 < length cs)
       let k = lowestPlace N cs in
       let (p, e) = lowestPlace-is in
       let (j, hj, w, q) = from k cs p i h in
-      omega (arith, front k cs p 0 k (omega arith) p, e, q, lowestOf-le j hj)
+      omega (arith, turn-front k cs p 0 k (omega arith) p, e, q, lowestOf-le j hj)

@@ -1,0 +1,124 @@
+-- Laws of loops that lower or raise waiting counts.
+use mathlib.Core.Path.{_≡_, refl, sym, ap, _∙_}
+use mathlib.Core.Logic.{_≢_}
+use mathlib.Core.Bool.{Bool, true, false, not, _&&_}
+use mathlib.Core.List.{List}
+use Prim.Native.Nat.{ℕ, zero, suc, _+_, _-_, _≤_, _<_}
+use native.Mathlib.Numerals.{add-one}
+use native.Mathlib.Omega.{arith}
+use native.Mathlib.Decide.{ℕ-discrete}
+use lib.Dec.{T, eqb, eqb-refl}
+use lib.ListN.{length, getD, set, length-set}
+use lib.Seq.{getD-set-same, getD-set-other}
+use Rattle.search.specs.Truth.{and-T, is-true, is-false, eq-true, eq-false}
+use Rattle.search.specs.Count.{bit, bit-le, count, count-le}
+use Rattle.placing.specs.Less.{isKey, areKeys, hits, Less}
+
+module _ (q : ℕ → Bool) (at : ℕ → ℕ) where
+  pub hits-none : (c : ℕ) → hits q at 0 c ≡ 0
+  unfolding hits count
+  hits-none c = refl
+
+  -- one that does not pass changes nothing
+  pub hits-miss : (n c : ℕ) → T (not (q n)) → hits q at (n + 1) c ≡ hits q at n c
+  unfolding hits count bit
+  hits-miss n c t = rw (add-one, is-false (q n) t) (omega arith)
+
+  -- one that passes counts one more at its own call, and nothing elsewhere
+  pub hits-hit : (n c : ℕ) → T (q n) → at n ≡ c → hits q at (n + 1) c ≡ suc (hits q at n c)
+  unfolding hits count bit
+  hits-hit n c t e = rw (add-one, is-true (q n) t, e, is-true (eqb c c) (eqb-refl c)) (omega arith)
+
+  pub hits-other : (n c : ℕ) → at n ≢ c → hits q at (n + 1) c ≡ hits q at n c
+  unfolding hits count bit
+  hits-other n c ne = rw (add-one, is-false (eqb (at n) c) (eq-false (at n) c ne)) (go (q n))
+    where
+      go : (b : Bool) → bit (b && false) + count (λ i. q i && eqb (at i) c) n ≡ count (λ i. q i && eqb (at i) c) n
+      go true = omega arith
+      go false = omega arith
+
+  pub hits-more : (k n c : ℕ) → k ≤ n → hits q at k c ≤ hits q at n c
+  unfolding hits count
+  hits-more zero zero c h = omega arith
+  hits-more (suc k) zero c h = absurd (omega arith)
+  hits-more k (suc n) c h = elim (ℕ-discrete k (suc n)) [
+    | yes e ↦ rw e (omega arith)
+    | no ne ↦ omega (arith, hits-more k n c (omega arith))
+  ]
+
+-- ---- both of two places hold their keys, or one does not
+
+module _ (keys : List ℕ) (key : ℕ) (others : List ℕ) (other i : ℕ) where
+  pub both-keys : getD keys i 0 ≡ key → getD others i 0 ≡ other → T (areKeys keys key others other i)
+  both-keys p q = and-T (isKey keys key i) (isKey others other i) (eq-true _ _ p) (eq-true _ _ q)
+
+  pub first-other : (getD keys i 0 ≡ key → ⊥) → T (not (areKeys keys key others other i))
+  first-other n = rw (is-false (isKey keys key i) (eq-false _ _ n)) tt
+
+  pub second-other : (getD others i 0 ≡ other → ⊥) → T (not (areKeys keys key others other i))
+  second-other n = go (isKey keys key i) (isKey others other i) (eq-false _ _ n)
+    where
+      go : (p q : Bool) → T (not q) → T (not (p && q))
+      go true q t = t
+      go false q t = tt
+
+-- ---- a loop that lowers one count for each that passes
+
+pub less-none : (q : ℕ → Bool) (at : ℕ → ℕ) (w : List ℕ) → Less (hits q at 0) w w
+less-none q at w = record { long = refl; less = λ c. omega (arith, hits-none q at c) }
+
+pub less-as : (a b : ℕ → ℕ) (high low : List ℕ) → ((c : ℕ) → a c ≡ b c) → Less a high low → Less b high low
+less-as a b high low e l = record { long = l .long; less = λ c. omega (arith, l .less c, e c) }
+
+module _ (q : ℕ → Bool) (at : ℕ → ℕ) (k : ℕ) where
+  pub less-miss : (high low : List ℕ) → T (not (q k)) → Less (hits q at k) high low
+      → Less (hits q at (k + 1)) high low
+  less-miss high low t =
+      less-as (hits q at k) (hits q at (k + 1)) high low (λ c. sym (hits-miss q at k c t))
+
+  pub lower-some : (n : ℕ) (high low : List ℕ) → k < n → T (q k)
+      → ((c : ℕ) → hits q at n c ≤ getD high c 0) → Less (hits q at k) high low → 0 < getD low (at k) 0
+  lower-some n high low h t enough l =
+      omega
+      (arith, l .less (at k), enough (at k), hits-hit q at k (at k) t refl, hits-more q at (k + 1) n (at k) (omega arith))
+
+  pub lower-hit : (n : ℕ) (high low : List ℕ) → k < n → T (q k) → at k < length high
+      → ((c : ℕ) → hits q at n c ≤ getD high c 0) → Less (hits q at k) high low
+      → Less (hits q at (k + 1)) high (set low (at k) (getD low (at k) 0 - 1))
+  lower-hit n high low h t i enough l = record {
+    long = length-set low (at k) (getD low (at k) 0 - 1) ∙ l .long;
+    less = λ c. elim (ℕ-discrete c (at k)) [
+      | yes e ↦
+          rw (e, getD-set-same low (at k) (getD low (at k) 0 - 1) 0 (omega (arith, l .long)))
+          (omega (arith, l .less (at k), hits-hit q at k (at k) t refl, lower-some n high low h t enough l))
+      | no ne ↦
+          rw (getD-set-other low (at k) c (getD low (at k) 0 - 1) 0 ne)
+          (omega (arith, l .less c, hits-other q at k c (λ e. ne (sym e))))
+    ];
+  }
+
+  -- ---- a loop that raises one count for each that passes
+  pub raise-room : (n : ℕ) (high low : List ℕ) → k < n → T (q k)
+      → ((c : ℕ) → getD low c 0 + hits q at n c ≤ 255) → Less (hits q at k) high low → getD high (at k) 0 < 255
+  raise-room n high low h t room l =
+      omega
+      (arith, l .less (at k), room (at k), hits-hit q at k (at k) t refl, hits-more q at (k + 1) n (at k) (omega arith))
+
+  pub raise-hit : (high low : List ℕ) → T (q k) → at k < length low → Less (hits q at k) high low
+      → Less (hits q at (k + 1)) (set high (at k) (getD high (at k) 0 + 1)) low
+  raise-hit high low t i l = record {
+    long = l .long ∙ sym (length-set high (at k) (getD high (at k) 0 + 1));
+    less = λ c. elim (ℕ-discrete c (at k)) [
+      | yes e ↦
+          rw (e, getD-set-same high (at k) (getD high (at k) 0 + 1) 0 (omega (arith, l .long)))
+          (omega (arith, l .less (at k), hits-hit q at k (at k) t refl))
+      | no ne ↦
+          rw (getD-set-other high (at k) c (getD high (at k) 0 + 1) 0 ne)
+          (omega (arith, l .less c, hits-other q at k c (λ e. ne (sym e))))
+    ];
+  }
+
+-- the loop is over
+pub less-all : (q : ℕ → Bool) (at : ℕ → ℕ) (n k : ℕ) (high low : List ℕ) → k ≤ n → n ≤ k
+    → Less (hits q at k) high low → Less (hits q at n) high low
+less-all q at n k high low h g l = let e : k ≡ n = omega arith in rw (← e) l

@@ -1,0 +1,56 @@
+use Rattle.placing.proofs.waiting.raise_range.Statement.{statement}
+use Rattle.placing.proofs.waiting.raise_range.Tie as tie
+use borrow.Author.Needs.{needs}
+use Prim.Native.Nat.{_-_, _≤_}
+use native.Mathlib.Omega.{arith}
+use Rattle.placing.specs.Less.{each, nth, hits, Less}
+use Rattle.placing.proofs.Hits.{less-none, less-all, raise-room, raise-hit}
+
+abbrev Inv-loop : tie.InvT-loop
+Inv-loop first count waiting₀ i₀ waiting i = (i ≤ count) × Less (hits each (nth first) i) waiting waiting₀
+
+abbrev μ-loop : tie.MeasureT-loop
+μ-loop first count waiting₀ i₀ waiting i = count - i
+
+loop-holds : tie.Need-loop-holds Inv-loop μ-loop
+loop-holds c = (search needs, less-none _ _ _)
+
+add-waiting : tie.Need-add-waiting Inv-loop μ-loop
+add-waiting c = search needs
+
+element-copy-out-waiting : tie.Need-element-copy-out-waiting Inv-loop μ-loop
+element-copy-out-waiting c = search needs
+
+add-waiting-2 : tie.Need-add-waiting-2 Inv-loop μ-loop
+add-waiting-2 c = let a = c .before .before .before .args in let l = c .before .before .loop in record { fits = omega (arith, raise-room each (nth (a .first)) (l .i) (a .count) (l .waiting) (a .waiting .now) (c .before .loop-test .taken) tt (c .before .before .before .pre .1 .1) (l .inv .1)) }
+
+element-write-waiting : tie.Need-element-write-waiting Inv-loop μ-loop
+element-write-waiting c = search needs
+
+add-i : tie.Need-add-i Inv-loop μ-loop
+add-i c = search needs
+
+loop-less : tie.Need-loop-less Inv-loop μ-loop
+loop-less c = search needs
+
+loop-again : tie.Need-loop-again Inv-loop μ-loop
+loop-again c = let a = c .before .before .before .args in let l = c .before .before .loop in (search needs, raise-hit each (nth (a .first)) (l .i) (l .waiting) (a .waiting .now) tt (search needs) (l .inv .1))
+
+returns : tie.Need-returns Inv-loop μ-loop
+returns c = let a = c .before .before .args in let l = c .before .loop in less-all each (nth (a .first)) (a .count) (l .i) (l .waiting) (a .waiting .now) (l .inv .0) (c .loop-test .left) (l .inv .1)
+
+pub raise-range-spec : {M : Type 1} → statement M
+raise-range-spec =
+    tie.close
+    (tie.spec
+    Inv-loop
+    μ-loop
+    loop-holds
+    add-waiting
+    element-copy-out-waiting
+    add-waiting-2
+    element-write-waiting
+    add-i
+    loop-less
+    loop-again
+    returns)

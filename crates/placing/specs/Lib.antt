@@ -1,0 +1,5 @@
+pub mod Less
+pub mod Waiting
+pub mod Placing
+pub mod Placed
+pub mod Determined

@@ -1,0 +1,100 @@
+-- The order's answer joined from what was placed.
+use mathlib.Core.Path.{_≡_, refl, sym, ap, subst, _∙_}
+use mathlib.Core.List.{List, [], _∷_, _++_, append-nil}
+use Prim.Native.Nat.{ℕ, _≤_, _<_}
+use native.Mathlib.Omega.{arith}
+use native.Mathlib.Decide.{ℕ-discrete}
+use lib.ListN.{length, take, drop, length-append, length-drop}
+use lib.Seq.{take-at}
+use Rattle.search.specs.Front.{fronted}
+use Rattle.table.specs.declared.Answer.{Answer}
+use Rattle.table.specs.Packed.{shapeOf}
+use Rattle.table.specs.Check.{refusal}
+use Rattle.table.specs.Checked.{passed-sound, few-calls}
+use Rattle.calls.specs.Precedence.{precedes}
+use Rattle.orders.specs.Remains.{placed-le}
+use Rattle.orders.specs.Turn.{turn}
+use Rattle.placing.specs.Placing.{Outcome, outcome, callCount, placedOf, placing}
+use Rattle.placing.specs.Placed.{placing-unsound, placing-done}
+use Rattle.sorter.specs.Ordering.{shownOf, ordering}
+use Rattle.sorter.specs.Demand.{
+  ordering-unsound,
+  ordering-short,
+  ordering-settled,
+  settled-all,
+  settled-some,
+  stopped-none,
+  stopped-shown,
+}
+
+-- what was placed, where the table is sound
+pub placing-is : (t : List ℕ) → refusal t ≡ 0 → placing t 224 ≡ outcome 0 (length (placedOf t)) (placedOf t)
+placing-is t e = placing-done t 224 e (few-calls t (passed-sound t e))
+
+module _ (t : List ℕ) (a : Answer) (e : a ≡ placing t 224 .answer) where
+  pub place-is : refusal t ≡ 0 → a .place ≡ length (placedOf t)
+  place-is z = ap (λ (r : Answer). r .place) e ∙ ap (λ (o : Outcome). o .answer .place) (placing-is t z)
+
+  pub not-refused : a .number ≡ 0 → refusal t ≡ 0
+  not-refused z = elim (ℕ-discrete (refusal t) 0) [
+    | yes y ↦ y
+    | no n ↦
+        sym (ap (λ (r : Answer). r .number) e ∙ ap (λ (o : Outcome). o .answer .number) (placing-unsound t 224 n)) ∙ z
+  ]
+
+  pub refused : (a .number ≡ 0 → ⊥) → refusal t ≡ 0 → ⊥
+  refused n z = n (ap (λ (r : Answer). r .number) e ∙ ap (λ (o : Outcome). o .answer .number) (placing-is t z))
+
+  pub refused-answer : (room : ℕ) → (a .number ≡ 0 → ⊥) → a ≡ ordering t room .answer
+  refused-answer room n =
+      e
+      ∙ ap (λ (o : Outcome). o .answer) (placing-unsound t 224 (refused n))
+      ∙ sym (ap (λ (o : Outcome). o .answer) (ordering-unsound t room (refused n)))
+
+-- the calls stand at the front of the list
+pub calls-are : (t calls zeros : List ℕ) (n : ℕ) → refusal t ≡ 0 → calls ≡ fronted (placing t 224 .bytes) zeros
+    → n ≡ length (placedOf t) → take n calls ≡ placedOf t
+calls-are t calls zeros n z e l =
+    rw (e, l, placing-is t z) (take-at (placedOf t) (drop (length (placedOf t)) zeros) (length (placedOf t)) refl)
+
+pub placed-most : (t : List ℕ) → length (placedOf t) ≤ callCount t
+unfolding placedOf
+placed-most t = placed-le (callCount t) (precedes (shapeOf t))
+
+pub calls-long : (t calls zeros : List ℕ) → refusal t ≡ 0 → length zeros ≡ 224
+    → calls ≡ fronted (placing t 224 .bytes) zeros → length calls ≡ 224
+calls-long t calls zeros z l e =
+    rw (e, placing-is t z)
+    (simp (length-append, length-drop) (omega (arith, placed-most t, few-calls t (passed-sound t z))))
+
+-- ---- the answers, return by return
+module _ (t : List ℕ) (room count : ℕ) (z : refusal t ≡ 0) (n : count ≡ callCount t) where
+  pub order-short : room < count → ordering t room ≡ outcome 8 0 []
+  order-short h = ordering-short t room z (omega arith)
+
+  pub order-all : count ≤ room → length (placedOf t) ≡ count → ordering t room ≡ outcome 0 count (placedOf t)
+  order-all h e = ordering-settled t room z (omega arith) ∙ settled-all t (e ∙ n) ∙ ap (λ k. outcome 0 k (placedOf t)) (sym n)
+
+  pub order-none : count ≤ room → (length (placedOf t) ≡ count → ⊥) → (k : ℕ) → k ≡ length (shownOf t) → k ≡ 0
+      → ordering t room ≡ outcome 10 0 (shownOf t)
+  order-none h d k e f =
+      ordering-settled t room z (omega arith)
+      ∙ settled-some t (λ y. d (y ∙ sym n))
+      ∙ stopped-none t (sym e ∙ f)
+      ∙ ap (outcome 10 0) (sym (no-length (shownOf t) (sym e ∙ f)))
+    where
+      no-length : (l : List ℕ) → length l ≡ 0 → l ≡ []
+      no-length [] y = refl
+      no-length (x ∷ l) y = absurd (omega arith)
+
+  pub order-cycle : count ≤ room → (length (placedOf t) ≡ count → ⊥) → (k : ℕ) → k ≡ length (shownOf t)
+      → (k ≡ 0 → ⊥) → ordering t room ≡ outcome 9 k (shownOf t)
+  order-cycle h d k e f =
+      ordering-settled t room z (omega arith)
+      ∙ settled-some t (λ y. d (y ∙ sym n))
+      ∙ stopped-shown t (λ y. f (e ∙ y))
+      ∙ ap (λ j. outcome 9 j (shownOf t)) (sym e)
+
+-- a list turned at its front is itself
+pub turned-none : (l : List ℕ) → turn 0 l ≡ l
+turned-none l = append-nil l

@@ -1,0 +1,5 @@
+pub mod Before
+pub mod Trails
+pub mod Turning
+pub mod Showing
+pub mod Joined

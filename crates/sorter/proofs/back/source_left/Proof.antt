@@ -1,0 +1,63 @@
+use borrow.Author.Needs.{needs}
+use Rattle.sorter.proofs.back.source_left.Statement.{statement}
+use Rattle.sorter.proofs.back.source_left.Tie as tie
+use Prim.Native.Nat.{ℕ, _+_}
+use mathlib.Core.Path.{_≡_, sym, ap, ap₂, subst, _∙_}
+use lib.ListN.{getD}
+use native.Mathlib.Omega.{arith}
+use Rattle.table.specs.Packed.{shapeOf}
+use Rattle.table.specs.Checked.{few-calls}
+use Rattle.sorter.proofs.Before.{source-stays, source-done}
+
+unit-count-requires : tie.Need-unit-count-requires
+unit-count-requires c κs = search needs
+
+input-sources-requires : tie.Need-input-sources-requires
+input-sources-requires c κs = search needs
+
+byte-requires : tie.Need-byte-requires
+byte-requires c κs = search needs
+
+add-get : tie.Need-add-get
+add-get c = search needs
+
+element-copy-out-if1 : tie.Need-element-copy-out-if1
+element-copy-out-if1 c = let a = c .before .before .before .before .args in let p = c .before .before .before .before .pre in omega (arith, c .before .before .unit-count .ensures .0, c .byte .ensures .0 ∙ ap (λ l. getD l (a .input) 0) (c .before .input-sources .ensures), p .0 .wired .sourced (a .input) (p .1), few-calls (a .table .now) (p .0))
+
+returns : tie.Need-returns
+returns c = let a = c .before .before .before .before .before .before .args in let e = ap₂ _+_ (c .before .before .before .before .unit-count .ensures .0) (c .before .before .byte .ensures .0 ∙ ap (λ l. getD l (a .input) 0) (c .before .before .before .input-sources .ensures)) in e ∙ source-stays (shapeOf (a .table .now)) (a .marks .now) (a .input) (subst (λ n. _≡_ {A = ℕ} (getD (a .marks .now) n 0) 0) e (c .if1 .taken))
+
+unit-count-requires-2 : tie.Need-unit-count-requires-2
+unit-count-requires-2 c κs = search needs
+
+output-count-requires : tie.Need-output-count-requires
+output-count-requires c κs = search needs
+
+add-result : tie.Need-add-result
+add-result c = search needs
+
+input-count-requires : tie.Need-input-count-requires
+input-count-requires c κs = search needs
+
+add-result-2 : tie.Need-add-result-2
+add-result-2 c = search needs
+
+returns-2 : tie.Need-returns-2
+returns-2 c = let a = c .before .before .before .before .before .before .before .before .before .args in let e = ap₂ _+_ (c .before .before .before .before .before .before .before .unit-count .ensures .0) (c .before .before .before .before .before .byte .ensures .0 ∙ ap (λ l. getD l (a .input) 0) (c .before .before .before .before .before .before .input-sources .ensures)) in ap₂ _+_ (ap₂ _+_ (c .before .before .unit-count2 .ensures .0) (c .before .output-count .ensures .0)) (c .input-count .ensures .0) ∙ source-done (shapeOf (a .table .now)) (a .marks .now) (a .input) (λ z. c .before .before .before .if1 .left (subst (λ n. _≡_ {A = ℕ} (getD (a .marks .now) n 0) 0) (sym e) z))
+
+pub source-left-spec : {M : Type 1} → statement M
+source-left-spec =
+    tie.close
+    (tie.spec
+    unit-count-requires
+    input-sources-requires
+    byte-requires
+    add-get
+    element-copy-out-if1
+    returns
+    unit-count-requires-2
+    output-count-requires
+    add-result
+    input-count-requires
+    add-result-2
+    returns-2)

@@ -1,0 +1,32 @@
+-- What `order` answers, and the bytes that go to the front of the caller's buffer.
+use mathlib.Core.Bool.{cond}
+use mathlib.Core.List.{List, []}
+use Prim.Native.Nat.{ℕ}
+use lib.Dec.{eqb, leb}
+use lib.ListN.{length}
+use Rattle.table.specs.Packed.{shapeOf}
+use Rattle.table.specs.Check.{refusal}
+use Rattle.calls.specs.Precedence.{precedes}
+use Rattle.orders.specs.Walk.{among}
+use Rattle.orders.specs.Turn.{shown}
+use Rattle.placing.specs.Placing.{Outcome, outcome, callCount, placedOf}
+
+-- the cycle of what remains, by the walk of "The cycle shown"
+unfoldable pub shownOf : List ℕ → List ℕ
+shownOf t = shown (callCount t) (precedes (shapeOf t)) (among (placedOf t))
+
+-- 9 with the cycle's length; 10 "nothing ready and no cycle found", which no table gives (Demand)
+unfoldable pub stopped : List ℕ → Outcome
+stopped t =
+    cond (eqb (length (shownOf t)) 0) (outcome 10 0 []) (outcome 9 (length (shownOf t)) (shownOf t))
+
+-- 0 with N where all were placed
+unfoldable pub settled : List ℕ → Outcome
+settled t = cond (eqb (length (placedOf t)) (callCount t)) (outcome 0 (callCount t) (placedOf t)) (stopped t)
+
+-- 1 to 7; then 8 "order buffer under N bytes"; then 0, 9 or 10
+unfoldable pub ordering : List ℕ → ℕ → Outcome
+ordering t room =
+    cond (eqb (refusal t) 0)
+    (cond (leb (callCount t) room) (settled t) (outcome 8 0 []))
+    (outcome (refusal t) 0 [])

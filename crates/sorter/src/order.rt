@@ -1,0 +1,98 @@
+// The order of a table's calls where all can be placed; else the cycle of what remains.
+ghost use mathlib.Core.Path.{_≡_};
+ghost use Prim.Native.Nat.{ℕ, _≤_, _<_};
+ghost use lib.Dec.{T};
+ghost use lib.ListN.{length, getD};
+ghost use Rattle.search.specs.Front.{fronted};
+ghost use Rattle.table.specs.Sound.{Sound};
+ghost use Rattle.orders.specs.Walk.{among, upto};
+ghost use Rattle.orders.specs.Turn.{turn, lowestPlace};
+ghost use Rattle.placing.specs.Placing.{callCount, placedOf};
+ghost use Rattle.sorter.specs.Ordering.{shownOf, ordering};
+use crate::show::lowest_of;
+use crate::show::place_of;
+use crate::show::write_turned;
+use crate::walk::mark;
+use crate::walk::walk_back;
+use placing::place::place_all;
+use table::Answer;
+use table::parts::input_count;
+use table::parts::output_count;
+use table::parts::unit_count;
+
+// Writes the front of what was seen through the call met again, from its lowest call on; gives its length.
+fn write_met(seen: &[u8], call: u8, count: u8, out: &mut [u8]) -> usize
+    requires { ⌜ T (among (now seen) call) ⌝ }
+    requires { ⌜ ((i : ℕ) → i < length (now seen) → getD (now seen) i 0 < count) ⌝ }
+    requires { ⌜ length (now seen) ≤ length (now out) ⌝ }
+    ensures { λ r. ⌜ r ≡ length (turn (lowestPlace count (upto call (now (seen .entry)))) (upto call (now (seen .entry)))) ⌝ }
+    ensures { λ r. ⌜ now (out .exit)
+        ≡ fronted (turn (lowestPlace count (upto call (now (seen .entry)))) (upto call (now (seen .entry))))
+        (now (out .entry)) ⌝ }
+{
+    let length = place_of(seen, call) + 1;
+    let cycle = &seen[..length];
+    let first = place_of(cycle, lowest_of(cycle, count));
+    write_turned(cycle, first, out);
+    length
+}
+
+// Writes the cycle of what remains at the front of `out`; gives its length, 0 where the walk meets none.
+fn show_cycle(table: &[u8], count: usize, placed: &[u8], out: &mut [u8]) -> usize
+    requires { ⌜ Sound (now table) ⌝ }
+    requires { ⌜ count ≡ callCount (now table) ⌝ }
+    requires { ⌜ now placed ≡ placedOf (now table) ⌝ }
+    requires { ⌜ count ≤ length (now out) ⌝ }
+    ensures { λ r. ⌜ r ≡ length (shownOf (now (table .entry))) ⌝ }
+    ensures { λ r. ⌜ now (out .exit) ≡ fronted (shownOf (now (table .entry))) (now (out .entry)) ⌝ }
+{
+    let mut marks: [u8; 224] = [0; 224];
+    mark(placed, &mut marks);
+    let mut path: [u8; 224] = [0; 224];
+    let met = walk_back(table, count, &marks, &mut path);
+    let at = met.at;
+    let call = met.call;
+    if count <= call {
+        return 0;
+    }
+    write_met(&path[at..], call as u8, count as u8, out)
+}
+
+// The first order at the front of `out`, or the cycle shown there, or a refusal that writes nothing.
+pub fn order(table: &[u8], out: &mut [u8]) -> Answer
+    ensures { λ r. ⌜ r ≡ ordering (now (table .entry)) (length (now (out .entry))) .answer ⌝ }
+    ensures { λ r. ⌜ now (out .exit)
+        ≡ fronted (ordering (now (table .entry)) (length (now (out .entry))) .bytes) (now (out .entry)) ⌝ }
+{
+    let mut calls: [u8; 224] = [0; 224];
+    let answer = place_all(table, &mut calls);
+    if answer.number != 0 {
+        return answer;
+    }
+    let placed = answer.place;
+    let count = unit_count(table) + output_count(table) + input_count(table);
+    if out.len() < count {
+        return Answer {
+            number: 8,
+            place: 0,
+        };
+    }
+    if placed == count {
+        write_turned(&calls[..count], 0, out);
+        return Answer {
+            number: 0,
+            place: count,
+        };
+    }
+    let length = show_cycle(table, count, &calls[..placed], out);
+    if length == 0 {
+        return Answer {
+            number: 10,
+            place: 0,
+        };
+    }
+    Answer {
+        number: 9,
+        place: length,
+    }
+}
