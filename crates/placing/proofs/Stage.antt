@@ -273,6 +273,14 @@ zero-found counts n c h b e =
 pub zero-behind : (counts : List ℕ) (n c : ℕ) → getD counts n 0 ≡ 0 → c ≤ n → (getD counts c 0 ≡ 0 → ⊥) → c < n
 zero-behind counts n c z h e = elim (ℕ-discrete c n) [ yes p ↦ absurd (e (rw p z)) | no p ↦ omega arith ]
 
+-- none below c passes, nor c, nor the next
+pub two-more : (q : ℕ → Bool) (c : ℕ) → ((k : ℕ) → k < c → T (not (q k))) → T (not (q c)) → T (not (q (c + 1)))
+    → (k : ℕ) → k < c + 2 → T (not (q k))
+two-more q c b p r k h = elim (ℕ-discrete k (c + 1)) [
+  | yes e ↦ rw e r
+  | no e ↦ elim (ℕ-discrete k c) [ yes f ↦ rw f p | no f ↦ b k (omega arith) ]
+]
+
 -- ---- the call that the search chooses
 module _ (t : List ℕ) (ok : Sound t) (calls₀ calls counts : List ℕ) (k : ℕ) (g : Stage t calls₀ calls counts k)
     (n c : ℕ) (e : n ≡ callCount t) (f : c ≡ leastFrom (isKey counts 0) n 0) where

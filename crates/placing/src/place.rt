@@ -50,10 +50,15 @@ fn lowest_ready(waiting: &[u8; 225], count: usize) -> usize
     ensures { λ r. ⌜ r ≡ leastFrom (isKey (now (waiting .entry)) 0) count 0 ⌝ }
 {
     let mut c = 0;
-    while waiting[c] != 0 {
-        c += 1;
+    loop {
+        if waiting[c] == 0 {
+            return c;
+        }
+        if waiting[c + 1] == 0 {
+            return c + 1;
+        }
+        c += 2;
     }
-    c
 }
 
 // Writes the calls that can be placed at the front of `calls`, in their order; gives how many.
