@@ -11,7 +11,7 @@ mod support_of_tests;
 use support::count::Counter;
 use support::exports::{oorlichday_check, plain_check, Check};
 use support::families::{families, great};
-use support::hunt::{changed, hunt};
+use support::hunt::{changed, hunt, STARTS};
 use support::rows::{heading, limit, rounds, row};
 use support_of_tests::random::Random;
 
@@ -25,7 +25,9 @@ fn main() {
     let counter = Counter::new();
     let mut random = Random::new(81);
     let mut worst = |rounds: usize, check: Check| {
-        hunt(&mut random, rounds, great, changed, |table| cost(&counter, check, &table.packed()))
+        hunt(&mut random, rounds, STARTS, great, changed, |table| {
+            cost(&counter, check, &table.packed())
+        })
     };
     if let Some(rounds) = rounds() {
         limit("check", worst(rounds, oorlichday_check).0, LIMIT);

@@ -11,7 +11,7 @@ mod support_of_tests;
 use support::count::Counter;
 use support::exports::{oorlichday_order, plain_order, Order};
 use support::families::{families, great};
-use support::hunt::{changed, hunt};
+use support::hunt::{changed, hunt, STARTS};
 use support::rows::{heading, limit, rounds, row};
 use support_of_tests::random::Random;
 
@@ -29,7 +29,9 @@ fn main() {
     let counter = Counter::new();
     let mut random = Random::new(82);
     let mut worst = |rounds: usize, order: Order| {
-        hunt(&mut random, rounds, great, changed, |table| cost(&counter, order, &table.packed()))
+        hunt(&mut random, rounds, STARTS, great, changed, |table| {
+            cost(&counter, order, &table.packed())
+        })
     };
     if let Some(rounds) = rounds() {
         limit("order", worst(rounds, oorlichday_order).0, LIMIT);

@@ -12,7 +12,7 @@ use reference::table::Table;
 use support::count::Counter;
 use support::exports::{oorlichday_verdict, plain_verdict, Verdict};
 use support::families::{families, first_order, great};
-use support::hunt::{changed, hunt};
+use support::hunt::{changed, hunt, STARTS};
 use support::rows::{heading, limit, rounds, row};
 use support_of_tests::random::Random;
 use support_of_tests::tables::{acyclic, GREATEST};
@@ -53,7 +53,7 @@ fn main() {
     let counter = Counter::new();
     let mut random = Random::new(83);
     let mut worst = |rounds: usize, verdict: Verdict| {
-        hunt(&mut random, rounds, begin, change, |case| cost(&counter, verdict, case))
+        hunt(&mut random, rounds, STARTS, begin, change, |case| cost(&counter, verdict, case))
     };
     if let Some(rounds) = rounds() {
         limit("verdict", worst(rounds, oorlichday_verdict).0, LIMIT);

@@ -3,18 +3,19 @@
 use crate::reference::table::{sound, Table};
 use crate::support_of_tests::random::Random;
 
-/// How often a hunt begins again.
-const STARTS: usize = 24;
+/// How often a hunt for a table begins again.
+pub const STARTS: usize = 24;
 
-/// The greatest cost met in so many rounds, with its input.
+/// The greatest cost met in so many rounds from so many starts, with its input.
 pub fn hunt<T: Clone>(
     random: &mut Random,
     rounds: usize,
+    starts: usize,
     mut begin: impl FnMut(&mut Random) -> T,
     mut change: impl FnMut(&mut Random, &T) -> T,
     mut cost: impl FnMut(&T) -> u64,
 ) -> (u64, T) {
-    let climb = (rounds / STARTS).max(1);
+    let climb = (rounds / starts).max(1);
     let mut here = begin(random);
     let mut here_cost = cost(&here);
     let mut best = (here_cost, here.clone());

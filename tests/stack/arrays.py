@@ -1,4 +1,7 @@
-"""Looks for local arrays above 256 bytes in the .rt files of each folder: arrays.py FOLDER..."""
+"""Looks for local arrays above 256 bytes in the .rt files of each folder: arrays.py FOLDER...
+
+An array that is only lent, as `&[u8; 644]`, is another function's.
+"""
 import pathlib
 import re
 import sys
@@ -6,7 +9,7 @@ import sys
 LIMIT = 256
 SIZES = {"bool": 1, "u8": 1, "i8": 1, "u16": 2, "i16": 2, "u32": 4, "i32": 4, "f32": 4,
          "u64": 8, "i64": 8, "usize": 8, "isize": 8, "f64": 8, "true": 1, "false": 1}
-ARRAY = re.compile(r"\[\s*([^\[\];]+?)\s*;\s*([A-Za-z0-9_]+)\s*\]")
+ARRAY = re.compile(r"(?<!&)(?<!&mut )\[\s*([^\[\];]+?)\s*;\s*([A-Za-z0-9_]+)\s*\]")
 TYPED = re.compile(r":\s*\[(\w+);\s*\w+\]\s*=\s*\[([^\[\];]+?)\s*;")
 CONSTANT = re.compile(r"\bconst\s+([A-Z_0-9]+)\s*:\s*usize\s*=\s*([0-9_]+)")
 

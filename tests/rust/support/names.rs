@@ -37,6 +37,7 @@ fn longest(count: usize) -> Vec<Vec<u8>> {
 }
 
 /// The names of a table's units, outputs and inputs.
+#[derive(Clone)]
 pub struct Names {
     pub units: Vec<Vec<u8>>,
     pub outputs: Vec<Vec<u8>>,

@@ -1,0 +1,4 @@
+pub mod Proper
+pub mod Kept
+pub mod Parts
+pub mod Sound

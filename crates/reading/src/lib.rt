@@ -1,0 +1,1 @@
+// Theory alone: what follows for a text that is read.
