@@ -1,1 +1,23 @@
-// The listing's own facts of a text that is read.
+// What the lister prints of a text, written into a lent buffer.
+use printing::put_outcome;
+use printing::put_refusal;
+use sorter::order;
+use table::Answer;
+use table::parts::stretch;
+use text::read;
+ghost use Rattle.printing.specs.Listed.{Listed};
+ghost use Rattle.listing.specs.Listing.{listing};
+
+// Writes the order, the cycle or the refusal of a text of any bytes, all of it or nothing.
+pub fn list(text: &[u8], out: &mut [u8]) -> Answer
+    ensures { λ r. ⌜ Listed (listing (now (text .entry))) (now (out .entry)) (now (out .exit)) r ⌝ }
+{
+    let mut table = [0u8; 644];
+    let mut calls = [0u8; 224];
+    let reading = read(text, &mut table);
+    if reading.number != 0 {
+        return put_refusal(reading.number, reading.place, out);
+    }
+    let answer = order(stretch(&table, 0, reading.place), &mut calls);
+    put_outcome(text, answer, &calls, out)
+}

@@ -1,0 +1,2 @@
+-- Laws of the listing.
+mod Composed

@@ -1,0 +1,62 @@
+-- Each answer of the reader and of the ordering has its own text (`Composed`).
+use borrow.Author.Needs.{needs}
+use Rattle.listing.proofs.list.Statement.{statement}
+use Rattle.listing.proofs.list.Tie as tie
+use Rattle.listing.proofs.Composed.{list-refused, list-ordered, same-listed}
+
+slice-aggregate-read : tie.Need-slice-aggregate-read
+slice-aggregate-read c = search needs
+
+read-requires : tie.Need-read-requires
+read-requires c κs = search needs
+
+put-refusal-requires : tie.Need-put-refusal-requires
+put-refusal-requires c κs = search needs
+
+same-length : tie.Need-same-length
+same-length c = search needs
+
+returns : tie.Need-returns
+returns c = same-listed (list-refused _ _ _ _ (c .before .before .before .before .before .before .before .read .ensures) (c .before .before .before .before .if1 .taken)) (c .before .before .put-refusal .ensures)
+
+slice-aggregate-stretch : tie.Need-slice-aggregate-stretch
+slice-aggregate-stretch c = search needs
+
+stretch-requires : tie.Need-stretch-requires
+stretch-requires c κs = search needs
+
+slice-aggregate-order : tie.Need-slice-aggregate-order
+slice-aggregate-order c = search needs
+
+order-requires : tie.Need-order-requires
+order-requires c κs = search needs
+
+slice-aggregate-put-outcome : tie.Need-slice-aggregate-put-outcome
+slice-aggregate-put-outcome c = search needs
+
+put-outcome-requires : tie.Need-put-outcome-requires
+put-outcome-requires c κs = search needs
+
+same-length-2 : tie.Need-same-length-2
+same-length-2 c = search needs
+
+returns-2 : tie.Need-returns-2
+returns-2 c = same-listed (list-ordered _ _ _ _ (c .before .before .before .before .before .before .before .before .before .before .before .before .before .read .ensures) (c .before .before .before .before .before .before .before .before .before .before .if1 .left) _ _ _ (c .before .before .before .before .before .before .before .before .stretch .ensures) (c .before .before .before .before .before .before .order .ensures .0) (c .before .before .before .before .before .before .order .ensures .1)) (c .before .before .put-outcome .ensures)
+
+pub list-spec : {M : Type 1} → statement M
+list-spec =
+    tie.close
+    (tie.spec
+    slice-aggregate-read
+    read-requires
+    put-refusal-requires
+    same-length
+    returns
+    slice-aggregate-stretch
+    stretch-requires
+    slice-aggregate-order
+    order-requires
+    slice-aggregate-put-outcome
+    put-outcome-requires
+    same-length-2
+    returns-2)
