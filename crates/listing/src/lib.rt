@@ -1,7 +1,7 @@
 // What the lister prints of a text, written into a lent buffer.
 use printing::put_outcome;
 use printing::put_refusal;
-use sorter::order;
+use sorter::order::order;
 use table::Answer;
 use table::parts::stretch;
 use text::read;
