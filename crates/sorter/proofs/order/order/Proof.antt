@@ -43,7 +43,7 @@ array-share-prefix-calls : tie.Need-array-share-prefix-calls
 array-share-prefix-calls c = let t = c .before .before .before .before .before .before .before .before .before .before .before .before .args .table .now in let z = not-refused t _ (c .before .before .before .before .before .before .before .before .place-all .ensures .0) (c .before .before .before .before .before .if1 .left) in let n = ap₂ _+_ (ap₂ _+_ (c .before .before .before .before .unit-count .ensures .0) (c .before .before .before .output-count .ensures .0)) (c .before .before .input-count .ensures .0) in omega (arith, n, calls-long t _ _ z refl (c .before .before .before .before .before .before .before .before .place-all .ensures .1), few-calls t (passed-sound t z))
 
 slice-aggregate-write-turned : tie.Need-slice-aggregate-write-turned
-slice-aggregate-write-turned c = let t = c .before .before .before .before .before .before .before .before .before .before .before .before .before .args .table .now in let z = not-refused t _ (c .before .before .before .before .before .before .before .before .before .place-all .ensures .0) (c .before .before .before .before .before .before .if1 .left) in let n = ap₂ _+_ (ap₂ _+_ (c .before .before .before .before .before .unit-count .ensures .0) (c .before .before .before .before .output-count .ensures .0)) (c .before .before .before .input-count .ensures .0) in sym (length-take-le _ _ (omega (arith, n, calls-long t _ _ z refl (c .before .before .before .before .before .before .before .before .before .place-all .ensures .1), few-calls t (passed-sound t z))))
+slice-aggregate-write-turned c = let t = c .before .before .before .before .before .before .before .before .before .before .before .before .before .args .table .now in let z = not-refused t _ (c .before .before .before .before .before .before .before .before .before .place-all .ensures .0) (c .before .before .before .before .before .before .if1 .left) in let n = ap₂ _+_ (ap₂ _+_ (c .before .before .before .before .before .unit-count .ensures .0) (c .before .before .before .before .output-count .ensures .0)) (c .before .before .before .input-count .ensures .0) in sym (length-take-le (c .before .before .before .before .before .unit-count .result + c .before .before .before .before .output-count .result + c .before .before .before .input-count .result) (c .before .before .before .before .before .before .before .before .before .place-all .last .1 .0) (omega (arith, n, calls-long t _ _ z refl (c .before .before .before .before .before .before .before .before .before .place-all .ensures .1), few-calls t (passed-sound t z))))
 
 write-turned-requires : tie.Need-write-turned-requires
 write-turned-requires c κs = let t = c .before .before .before .before .before .before .before .before .before .before .before .before .before .before .args .table .now in let z = not-refused t _ (c .before .before .before .before .before .before .before .before .before .before .place-all .ensures .0) (c .before .before .before .before .before .before .before .if1 .left) in let n = ap₂ _+_ (ap₂ _+_ (c .before .before .before .before .before .before .unit-count .ensures .0) (c .before .before .before .before .before .output-count .ensures .0)) (c .before .before .before .before .input-count .ensures .0) in let l = length-take-le (c .before .before .before .before .before .before .unit-count .result + c .before .before .before .before .before .output-count .result + c .before .before .before .before .input-count .result) (c .before .before .before .before .before .before .before .before .before .before .place-all .last .1 .0) (omega (arith, n, calls-long t _ _ z refl (c .before .before .before .before .before .before .before .before .before .before .place-all .ensures .1), few-calls t (passed-sound t z))) in (omega (arith, l, n, passed-sound t z .counted .units-some), omega (arith, l, c .before .before .before .if2 .left))
