@@ -44,13 +44,15 @@ fn fill(table: &[u8], waiting: &mut [u8; 225])
 }
 
 // The lowest call that waits for none; `count` where each does: a 0 stands behind the last.
+// Held to that byte and not to a constant, so that no compiler makes a call of strlen of it.
 fn lowest_ready(waiting: &[u8; 225], count: usize) -> usize
     requires { ⌜ count < 225 ⌝ }
     requires { ⌜ getD (now waiting) count 0 ≡ 0 ⌝ }
     ensures { λ r. ⌜ r ≡ leastFrom (isKey (now (waiting .entry)) 0) count 0 ⌝ }
 {
+    let ready = waiting[count];
     let mut c = 0;
-    while waiting[c] != 0 {
+    while waiting[c] != ready {
         c += 1;
     }
     c
