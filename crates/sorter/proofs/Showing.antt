@@ -126,8 +126,8 @@ placed-few t placed e f i h =
 module _ (t : List ℕ) (done : ℕ → Bool) (path : List ℕ) (at call : ℕ) (w : Walked t done path at call)
     (placed : List ℕ) (e : done ≡ among placed) (q : placed ≡ placedOf t) where
   -- the rest of the path, as the code lends it
-  pub path-rest : take (224 - at) (drop at path) ≡ drop at path
-  path-rest = take-all (224 - at) (drop at path) (omega (arith, length-drop at path, w .long))
+  pub path-rest : take (length path - at) (drop at path) ≡ drop at path
+  path-rest = take-all (length path - at) (drop at path) (omega (arith, length-drop at path))
 
   pub stops-short : callCount t ≤ call → shownOf t ≡ []
   unfolding shownOf
@@ -143,6 +143,6 @@ module _ (t : List ℕ) (done : ℕ → Bool) (path : List ℕ) (at call : ℕ) 
 
   -- in the code's terms
   pub met-shown : (n : ℕ) → n ≡ callCount t → call < n
-      → turn (lowestPlace n (upto call (take (224 - at) (drop at path)))) (upto call (take (224 - at) (drop at path)))
+      → turn (lowestPlace n (upto call (take (length path - at) (drop at path)))) (upto call (take (length path - at) (drop at path)))
       ≡ shownOf t
   met-shown n f h = rw (path-rest, f) (meets-again (omega arith))

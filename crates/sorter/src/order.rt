@@ -2,7 +2,7 @@
 ghost use mathlib.Core.Path.{_≡_};
 ghost use Prim.Native.Nat.{ℕ, _≤_, _<_};
 ghost use lib.Dec.{T};
-ghost use lib.ListN.{length, getD};
+ghost use lib.ListN.{length, getD, take};
 ghost use Rattle.search.specs.Front.{fronted};
 ghost use Rattle.table.specs.Sound.{Sound};
 ghost use Rattle.orders.specs.Walk.{among, upto};
@@ -38,24 +38,26 @@ fn write_met(seen: &[u8], call: u8, count: u8, out: &mut [u8]) -> usize
 }
 
 // Writes the cycle of what remains at the front of `out`; gives its length, 0 where the walk meets none.
-fn show_cycle(table: &[u8], count: usize, placed: &[u8], out: &mut [u8]) -> usize
+// The list of the `placed` calls is the walk's path once they are marked.
+fn show_cycle(table: &[u8], count: usize, placed: usize, calls: &mut [u8], out: &mut [u8]) -> usize
     requires { ⌜ Sound (now table) ⌝ }
     requires { ⌜ count ≡ callCount (now table) ⌝ }
-    requires { ⌜ now placed ≡ placedOf (now table) ⌝ }
+    requires { ⌜ length (now calls) ≡ 224 ⌝ }
+    requires { ⌜ placed ≤ 224 ⌝ }
+    requires { ⌜ take placed (now calls) ≡ placedOf (now table) ⌝ }
     requires { ⌜ count ≤ length (now out) ⌝ }
     ensures { λ r. ⌜ r ≡ length (shownOf (now (table .entry))) ⌝ }
     ensures { λ r. ⌜ now (out .exit) ≡ fronted (shownOf (now (table .entry))) (now (out .entry)) ⌝ }
 {
     let mut marks: [u8; 224] = [0; 224];
-    mark(placed, &mut marks);
-    let mut path: [u8; 224] = [0; 224];
-    let met = walk_back(table, count, &marks, &mut path);
+    mark(&calls[..placed], &mut marks);
+    let met = walk_back(table, count, &marks, calls);
     let at = met.at;
     let call = met.call;
     if count <= call {
         return 0;
     }
-    write_met(&path[at..], call as u8, count as u8, out)
+    write_met(&calls[at..], call as u8, count as u8, out)
 }
 
 // The first order at the front of `out`, or the cycle shown there, or a refusal that writes nothing.
@@ -84,7 +86,7 @@ pub fn order(table: &[u8], out: &mut [u8]) -> Answer
             place: count,
         };
     }
-    let length = show_cycle(table, count, &calls[..placed], out);
+    let length = show_cycle(table, count, placed, &mut calls, out);
     if length == 0 {
         return Answer {
             number: 10,

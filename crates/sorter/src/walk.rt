@@ -47,7 +47,7 @@ fn lowest_left(marks: &[u8; 224], count: usize) -> usize
 }
 
 // Walks back until a call is met a second time; the path is filled from its end, so it reads forward.
-pub fn walk_back(table: &[u8], count: usize, marks: &[u8; 224], path: &mut [u8; 224]) -> Met
+pub fn walk_back(table: &[u8], count: usize, marks: &[u8; 224], path: &mut [u8]) -> Met
     requires { ⌜ Sound (now table) ⌝ }
     requires { ⌜ count ≡ callCount (now table) ⌝ }
     requires { ⌜ length (now path) ≡ 224 ⌝ }

@@ -43,7 +43,7 @@ array-share-prefix-calls : tie.Need-array-share-prefix-calls
 array-share-prefix-calls c = let t = c .before .before .before .before .before .before .before .before .before .before .before .before .args .table .now in let z = not-refused t _ (c .before .before .before .before .before .before .before .before .place-all .ensures .0) (c .before .before .before .before .before .if1 .left) in let n = ap₂ _+_ (ap₂ _+_ (c .before .before .before .before .unit-count .ensures .0) (c .before .before .before .output-count .ensures .0)) (c .before .before .input-count .ensures .0) in omega (arith, n, calls-long t _ _ z refl (c .before .before .before .before .before .before .before .before .place-all .ensures .1), few-calls t (passed-sound t z))
 
 slice-aggregate-write-turned : tie.Need-slice-aggregate-write-turned
-slice-aggregate-write-turned c = let t = c .before .before .before .before .before .before .before .before .before .before .before .before .before .args .table .now in let z = not-refused t _ (c .before .before .before .before .before .before .before .before .before .place-all .ensures .0) (c .before .before .before .before .before .before .if1 .left) in let n = ap₂ _+_ (ap₂ _+_ (c .before .before .before .before .before .unit-count .ensures .0) (c .before .before .before .before .output-count .ensures .0)) (c .before .before .before .input-count .ensures .0) in sym (length-take-le _ _ (omega (arith, n, calls-long t _ _ z refl (c .before .before .before .before .before .before .before .before .before .place-all .ensures .1), few-calls t (passed-sound t z))))
+slice-aggregate-write-turned c = let t = c .before .before .before .before .before .before .before .before .before .before .before .before .before .args .table .now in let z = not-refused t _ (c .before .before .before .before .before .before .before .before .before .place-all .ensures .0) (c .before .before .before .before .before .before .if1 .left) in let n = ap₂ _+_ (ap₂ _+_ (c .before .before .before .before .before .unit-count .ensures .0) (c .before .before .before .before .output-count .ensures .0)) (c .before .before .before .input-count .ensures .0) in sym (length-take-le (c .before .before .before .before .before .unit-count .result + c .before .before .before .before .output-count .result + c .before .before .before .input-count .result) (c .before .before .before .before .before .before .before .before .before .place-all .last .1 .0) (omega (arith, n, calls-long t _ _ z refl (c .before .before .before .before .before .before .before .before .before .place-all .ensures .1), few-calls t (passed-sound t z))))
 
 write-turned-requires : tie.Need-write-turned-requires
 write-turned-requires c κs = let t = c .before .before .before .before .before .before .before .before .before .before .before .before .before .before .args .table .now in let z = not-refused t _ (c .before .before .before .before .before .before .before .before .before .before .place-all .ensures .0) (c .before .before .before .before .before .before .before .if1 .left) in let n = ap₂ _+_ (ap₂ _+_ (c .before .before .before .before .before .before .unit-count .ensures .0) (c .before .before .before .before .before .output-count .ensures .0)) (c .before .before .before .before .input-count .ensures .0) in let l = length-take-le (c .before .before .before .before .before .before .unit-count .result + c .before .before .before .before .before .output-count .result + c .before .before .before .before .input-count .result) (c .before .before .before .before .before .before .before .before .before .before .place-all .last .1 .0) (omega (arith, n, calls-long t _ _ z refl (c .before .before .before .before .before .before .before .before .before .before .place-all .ensures .1), few-calls t (passed-sound t z))) in (omega (arith, l, n, passed-sound t z .counted .units-some), omega (arith, l, c .before .before .before .if2 .left))
@@ -54,26 +54,23 @@ same-length c = search needs
 returns-3 : tie.Need-returns-3
 returns-3 c = let t = c .before .before .before .before .before .before .before .before .before .before .before .before .before .before .before .before .before .args .table .now in let z = not-refused t _ (c .before .before .before .before .before .before .before .before .before .before .before .before .before .place-all .ensures .0) (c .before .before .before .before .before .before .before .before .before .before .if1 .left) in let n = ap₂ _+_ (ap₂ _+_ (c .before .before .before .before .before .before .before .before .before .unit-count .ensures .0) (c .before .before .before .before .before .before .before .before .output-count .ensures .0)) (c .before .before .before .before .before .before .before .input-count .ensures .0) in let q = sym (place-is t _ (c .before .before .before .before .before .before .before .before .before .before .before .before .before .place-all .ensures .0) z) ∙ c .before .before .before .before .before .if3 .taken in let o = order-all t (length (c .before .before .before .before .before .before .before .before .before .before .before .before .before .before .before .before .before .args .out .now)) _ z n (c .before .before .before .before .before .before .if2 .left) q in (sym (ap (λ (r : Outcome). r .answer) o), c .before .before .write-turned .ensures ∙ ap (λ l. fronted l (c .before .before .before .before .before .before .before .before .before .before .before .before .before .before .before .before .before .args .out .now)) (turned-none _ ∙ calls-are t _ _ _ z (c .before .before .before .before .before .before .before .before .before .before .before .before .before .place-all .ensures .1) (sym q) ∙ sym (ap (λ (r : Outcome). r .bytes) o)))
 
-array-share-prefix-calls-2 : tie.Need-array-share-prefix-calls-2
-array-share-prefix-calls-2 c = let t = c .before .before .before .before .before .before .before .before .before .before .before .before .args .table .now in let z = not-refused t _ (c .before .before .before .before .before .before .before .before .place-all .ensures .0) (c .before .before .before .before .before .if1 .left) in omega (arith, place-is t _ (c .before .before .before .before .before .before .before .before .place-all .ensures .0) z, placed-most t, calls-long t _ _ z refl (c .before .before .before .before .before .before .before .before .place-all .ensures .1), few-calls t (passed-sound t z))
-
 slice-aggregate-show-cycle : tie.Need-slice-aggregate-show-cycle
-slice-aggregate-show-cycle c = let t = c .before .before .before .before .before .before .before .before .before .before .before .before .before .args .table .now in let z = not-refused t _ (c .before .before .before .before .before .before .before .before .before .place-all .ensures .0) (c .before .before .before .before .before .before .if1 .left) in sym (length-take-le _ _ (omega (arith, place-is t _ (c .before .before .before .before .before .before .before .before .before .place-all .ensures .0) z, placed-most t, calls-long t _ _ z refl (c .before .before .before .before .before .before .before .before .before .place-all .ensures .1), few-calls t (passed-sound t z))))
+slice-aggregate-show-cycle c = let t = c .before .before .before .before .before .before .before .before .before .before .before .before .before .args .table .now in let z = not-refused t _ (c .before .before .before .before .before .before .before .before .before .place-all .ensures .0) (c .before .before .before .before .before .before .if1 .left) in sym (calls-long t _ _ z refl (c .before .before .before .before .before .before .before .before .before .place-all .ensures .1))
 
 show-cycle-requires : tie.Need-show-cycle-requires
-show-cycle-requires c κs = let t = c .before .before .before .before .before .before .before .before .before .before .before .before .before .before .args .table .now in let z = not-refused t _ (c .before .before .before .before .before .before .before .before .before .before .place-all .ensures .0) (c .before .before .before .before .before .before .before .if1 .left) in let n = ap₂ _+_ (ap₂ _+_ (c .before .before .before .before .before .before .unit-count .ensures .0) (c .before .before .before .before .before .output-count .ensures .0)) (c .before .before .before .before .input-count .ensures .0) in (passed-sound t z, (n, (calls-are t _ _ _ z (c .before .before .before .before .before .before .before .before .before .before .place-all .ensures .1) (place-is t _ (c .before .before .before .before .before .before .before .before .before .before .place-all .ensures .0) z), c .before .before .before .if2 .left)))
+show-cycle-requires c κs = let t = c .before .before .before .before .before .before .before .before .before .before .before .before .before .before .args .table .now in let z = not-refused t _ (c .before .before .before .before .before .before .before .before .before .before .place-all .ensures .0) (c .before .before .before .before .before .before .before .if1 .left) in let n = ap₂ _+_ (ap₂ _+_ (c .before .before .before .before .before .before .unit-count .ensures .0) (c .before .before .before .before .before .output-count .ensures .0)) (c .before .before .before .before .input-count .ensures .0) in (passed-sound t z, (n, (calls-long t _ _ z refl (c .before .before .before .before .before .before .before .before .before .before .place-all .ensures .1), (omega (arith, place-is t _ (c .before .before .before .before .before .before .before .before .before .before .place-all .ensures .0) z, placed-most t, few-calls t (passed-sound t z)), (calls-are t _ _ _ z (c .before .before .before .before .before .before .before .before .before .before .place-all .ensures .1) (place-is t _ (c .before .before .before .before .before .before .before .before .before .before .place-all .ensures .0) z), c .before .before .before .if2 .left)))))
 
 same-length-2 : tie.Need-same-length-2
 same-length-2 c = search needs
 
 returns-4 : tie.Need-returns-4
-returns-4 c = let t = c .before .before .before .before .before .before .before .before .before .before .before .before .before .before .before .before .before .before .args .table .now in let z = not-refused t _ (c .before .before .before .before .before .before .before .before .before .before .before .before .before .before .place-all .ensures .0) (c .before .before .before .before .before .before .before .before .before .before .before .if1 .left) in let n = ap₂ _+_ (ap₂ _+_ (c .before .before .before .before .before .before .before .before .before .before .unit-count .ensures .0) (c .before .before .before .before .before .before .before .before .before .output-count .ensures .0)) (c .before .before .before .before .before .before .before .before .input-count .ensures .0) in let o = order-none t (length (c .before .before .before .before .before .before .before .before .before .before .before .before .before .before .before .before .before .before .args .out .now)) _ z n (c .before .before .before .before .before .before .before .if2 .left) (λ y. c .before .before .before .before .before .before .if3 .left (place-is t _ (c .before .before .before .before .before .before .before .before .before .before .before .before .before .before .place-all .ensures .0) z ∙ y)) _ (c .before .before .before .show-cycle .ensures .0) (c .if4 .taken) in (sym (ap (λ (r : Outcome). r .answer) o), c .before .before .before .show-cycle .ensures .1 ∙ ap (λ l. fronted l (c .before .before .before .before .before .before .before .before .before .before .before .before .before .before .before .before .before .before .args .out .now)) (sym (ap (λ (r : Outcome). r .bytes) o)))
+returns-4 c = let t = c .before .before .before .before .before .before .before .before .before .before .before .before .before .before .before .before .before .before .before .args .table .now in let z = not-refused t _ (c .before .before .before .before .before .before .before .before .before .before .before .before .before .before .before .place-all .ensures .0) (c .before .before .before .before .before .before .before .before .before .before .before .before .if1 .left) in let n = ap₂ _+_ (ap₂ _+_ (c .before .before .before .before .before .before .before .before .before .before .before .unit-count .ensures .0) (c .before .before .before .before .before .before .before .before .before .before .output-count .ensures .0)) (c .before .before .before .before .before .before .before .before .before .input-count .ensures .0) in let o = order-none t (length (c .before .before .before .before .before .before .before .before .before .before .before .before .before .before .before .before .before .before .before .args .out .now)) _ z n (c .before .before .before .before .before .before .before .before .if2 .left) (λ y. c .before .before .before .before .before .before .before .if3 .left (place-is t _ (c .before .before .before .before .before .before .before .before .before .before .before .before .before .before .before .place-all .ensures .0) z ∙ y)) _ (c .before .before .before .before .show-cycle .ensures .0) (c .if4 .taken) in (sym (ap (λ (r : Outcome). r .answer) o), c .before .before .before .before .show-cycle .ensures .1 ∙ ap (λ l. fronted l (c .before .before .before .before .before .before .before .before .before .before .before .before .before .before .before .before .before .before .before .args .out .now)) (sym (ap (λ (r : Outcome). r .bytes) o)))
 
 same-length-3 : tie.Need-same-length-3
 same-length-3 c = search needs
 
 returns-5 : tie.Need-returns-5
-returns-5 c = let t = c .before .before .before .before .before .before .before .before .before .before .before .before .before .before .before .before .before .before .args .table .now in let z = not-refused t _ (c .before .before .before .before .before .before .before .before .before .before .before .before .before .before .place-all .ensures .0) (c .before .before .before .before .before .before .before .before .before .before .before .if1 .left) in let n = ap₂ _+_ (ap₂ _+_ (c .before .before .before .before .before .before .before .before .before .before .unit-count .ensures .0) (c .before .before .before .before .before .before .before .before .before .output-count .ensures .0)) (c .before .before .before .before .before .before .before .before .input-count .ensures .0) in let o = order-cycle t (length (c .before .before .before .before .before .before .before .before .before .before .before .before .before .before .before .before .before .before .args .out .now)) _ z n (c .before .before .before .before .before .before .before .if2 .left) (λ y. c .before .before .before .before .before .before .if3 .left (place-is t _ (c .before .before .before .before .before .before .before .before .before .before .before .before .before .before .place-all .ensures .0) z ∙ y)) _ (c .before .before .before .show-cycle .ensures .0) (c .if4 .left) in (sym (ap (λ (r : Outcome). r .answer) o), c .before .before .before .show-cycle .ensures .1 ∙ ap (λ l. fronted l (c .before .before .before .before .before .before .before .before .before .before .before .before .before .before .before .before .before .before .args .out .now)) (sym (ap (λ (r : Outcome). r .bytes) o)))
+returns-5 c = let t = c .before .before .before .before .before .before .before .before .before .before .before .before .before .before .before .before .before .before .before .args .table .now in let z = not-refused t _ (c .before .before .before .before .before .before .before .before .before .before .before .before .before .before .before .place-all .ensures .0) (c .before .before .before .before .before .before .before .before .before .before .before .before .if1 .left) in let n = ap₂ _+_ (ap₂ _+_ (c .before .before .before .before .before .before .before .before .before .before .before .unit-count .ensures .0) (c .before .before .before .before .before .before .before .before .before .before .output-count .ensures .0)) (c .before .before .before .before .before .before .before .before .before .input-count .ensures .0) in let o = order-cycle t (length (c .before .before .before .before .before .before .before .before .before .before .before .before .before .before .before .before .before .before .before .args .out .now)) _ z n (c .before .before .before .before .before .before .before .before .if2 .left) (λ y. c .before .before .before .before .before .before .before .if3 .left (place-is t _ (c .before .before .before .before .before .before .before .before .before .before .before .before .before .before .before .place-all .ensures .0) z ∙ y)) _ (c .before .before .before .before .show-cycle .ensures .0) (c .if4 .left) in (sym (ap (λ (r : Outcome). r .answer) o), c .before .before .before .before .show-cycle .ensures .1 ∙ ap (λ l. fronted l (c .before .before .before .before .before .before .before .before .before .before .before .before .before .before .before .before .before .before .before .args .out .now)) (sym (ap (λ (r : Outcome). r .bytes) o)))
 
 pub order-spec : {M : Type 1} → statement M
 order-spec =
@@ -93,7 +90,6 @@ order-spec =
     write-turned-requires
     same-length
     returns-3
-    array-share-prefix-calls-2
     slice-aggregate-show-cycle
     show-cycle-requires
     same-length-2
