@@ -1,2 +1,3 @@
 pub mod Code
+pub mod Places
 pub mod Determined

@@ -1,8 +1,11 @@
-// What the C firmware calls: the check and the verdict on byte buffers.
+// What the C firmware calls: the check, the order and the verdict on byte buffers.
 ghost use mathlib.Core.Path.{_≡_};
 ghost use Prim.Native.Nat.{_≤_};
 ghost use Rattle.table.specs.Check.{checked};
 ghost use Rattle.judging.specs.Verdict.{verdictOf};
+ghost use Rattle.search.specs.Front.{fronted};
+ghost use Rattle.sorter.specs.Ordering.{ordering};
+ghost use lib.ListN.{length};
 ghost use Rattle.firmware.specs.Code.{coded};
 use table::Answer;
 
@@ -20,6 +23,16 @@ pub extern "C" fn oorlichday_check(table: &[u8]) -> u32
     ensures { λ r. ⌜ r ≡ coded (checked (now (table .entry))) ⌝ }
 {
     code(table::check::check(table))
+}
+
+// The first order of the table's calls, or a cycle of them.
+#[no_mangle]
+pub extern "C" fn oorlichday_order(table: &[u8], order: &mut [u8]) -> u32
+    ensures { λ r. ⌜ r ≡ coded (ordering (now (table .entry)) (length (now (order .entry))) .answer) ⌝ }
+    ensures { λ r. ⌜ now (order .exit)
+        ≡ fronted (ordering (now (table .entry)) (length (now (order .entry))) .bytes) (now (order .entry)) ⌝ }
+{
+    code(sorter::order::order(table, order))
 }
 
 // Does the given order keep the rules?
