@@ -1,5 +1,6 @@
 // Runs the examples of document 01 and of its readings that are not proved, and prints what each gives.
 use judge::verdict;
+use sorter::order::order;
 ghost use mathlib.Core.Path.{_≡_};
 ghost use lib.ListN.{length};
 use table::Answer;
@@ -71,7 +72,20 @@ fn checked() {
     gives(b"a feed and no input", check(&[1u8, 0, 0, 1, 0, 0]));
 }
 
+// Orders asked for: a buffer of five bytes, and a call that only waits behind the cycle 2 4 6.
+fn ordered() {
+    let a = [2u8, 2, 2, 0, 0, 1, 0, 1, 0, 1, 1, 0];
+    let mut five = [0u8; 5];
+    gives(b"A, a five-byte order buffer", order(&a, &mut five));
+    let mut eight = [0u8; 8];
+    gives(
+        b"3 2 3 0 1 2 1 2 0 1 1 1 0 1 1",
+        order(&[3u8, 2, 3, 0, 1, 2, 1, 2, 0, 1, 1, 1, 0, 1, 1], &mut eight),
+    );
+}
+
 fn main() {
     checked();
+    ordered();
     judged();
 }
