@@ -1,3 +1,4 @@
+-- Five rules raise the counts from 0; their sum is `into` of every call (`filled`).
 use borrow.Author.Needs.{needs}
 use Rattle.placing.proofs.place.fill.Statement.{statement}
 use Rattle.placing.proofs.place.fill.Tie as tie

@@ -1,3 +1,4 @@
+-- None passed over is 0, and the 0 behind the last call ends the search.
 use Rattle.placing.proofs.place.lowest_ready.Statement.{statement}
 use Rattle.placing.proofs.place.lowest_ready.Tie as tie
 use borrow.Author.Needs.{needs}

@@ -1,3 +1,4 @@
+-- Case by case what `placing` answers.
 use borrow.Author.Needs.{needs}
 use Rattle.placing.proofs.place.place_all.Statement.{statement}
 use Rattle.placing.proofs.place.place_all.Tie as tie

@@ -1,3 +1,4 @@
+-- The stage holds at the start, after each call placed, and says the end.
 use Rattle.placing.proofs.place.place_ready.Statement.{statement}
 use Rattle.placing.proofs.place.place_ready.Tie as tie
 use borrow.Author.Needs.{needs}

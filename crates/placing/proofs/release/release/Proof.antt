@@ -1,3 +1,4 @@
+-- The call told apart has the number that was placed.
 use borrow.Author.Needs.{needs}
 use Rattle.placing.proofs.release.release.Statement.{statement}
 use Rattle.placing.proofs.release.release.Tie as tie

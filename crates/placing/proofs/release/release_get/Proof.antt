@@ -1,3 +1,4 @@
+-- What a get gives is what its loop hits (`hits-readers`).
 use borrow.Author.Needs.{needs}
 use Rattle.placing.proofs.release.release_get.Statement.{statement}
 use Rattle.placing.proofs.release.release_get.Tie as tie

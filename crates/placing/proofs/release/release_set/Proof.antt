@@ -1,3 +1,4 @@
+-- What a set gives is what its loop hits and its own unit's step (`set-gives`).
 use borrow.Author.Needs.{needs}
 use Rattle.placing.proofs.release.release_set.Statement.{statement}
 use Rattle.placing.proofs.release.release_set.Tie as tie

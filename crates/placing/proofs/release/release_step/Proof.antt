@@ -1,3 +1,4 @@
+-- What a step gives is what its two loops hit (`step-gives`).
 use borrow.Author.Needs.{needs}
 use Rattle.placing.proofs.release.release_step.Statement.{statement}
 use Rattle.placing.proofs.release.release_step.Tie as tie

@@ -1,3 +1,4 @@
+-- A reactive input gives its unit one, a delayed one nothing.
 use borrow.Author.Needs.{needs}
 use Rattle.placing.proofs.release.release_unit.Statement.{statement}
 use Rattle.placing.proofs.release.release_unit.Tie as tie

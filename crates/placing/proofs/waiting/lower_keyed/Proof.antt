@@ -1,3 +1,4 @@
+-- A turn lowers one count or none: `lower-hit` and `less-miss` carry the loop.
 use Rattle.placing.proofs.waiting.lower_keyed.Statement.{statement}
 use Rattle.placing.proofs.waiting.lower_keyed.Tie as tie
 use borrow.Author.Needs.{needs}

@@ -1,3 +1,4 @@
+-- A turn raises one count or none: `raise-hit` and `less-miss` carry the loop.
 use Rattle.placing.proofs.waiting.raise_keyed.Statement.{statement}
 use Rattle.placing.proofs.waiting.raise_keyed.Tie as tie
 use borrow.Author.Needs.{needs}

@@ -1,3 +1,4 @@
+-- Each turn raises one count: `raise-hit` carries the loop.
 use Rattle.placing.proofs.waiting.raise_range.Statement.{statement}
 use Rattle.placing.proofs.waiting.raise_range.Tie as tie
 use borrow.Author.Needs.{needs}

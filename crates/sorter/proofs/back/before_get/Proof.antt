@@ -1,3 +1,4 @@
+-- The step is lower than any set; else the first feeding input is the lowest.
 use borrow.Author.Needs.{needs}
 use Rattle.sorter.proofs.back.before_get.Statement.{statement}
 use Rattle.sorter.proofs.back.before_get.Tie as tie

@@ -1,3 +1,4 @@
+-- The step is lower than the get; a reactive input has no step before it.
 use borrow.Author.Needs.{needs}
 use Rattle.sorter.proofs.back.before_set.Statement.{statement}
 use Rattle.sorter.proofs.back.before_set.Tie as tie

@@ -1,3 +1,4 @@
+-- The first input that keeps the step waiting is the lowest predecessor (`step-ends`).
 use Rattle.sorter.proofs.back.before_step.Statement.{statement}
 use Rattle.sorter.proofs.back.before_step.Tie as tie
 use borrow.Author.Needs.{needs}

@@ -1,3 +1,4 @@
+-- The best so far is the lowest among the feeds passed.
 use Rattle.sorter.proofs.back.first_feeding.Statement.{statement}
 use Rattle.sorter.proofs.back.first_feeding.Tie as tie
 use borrow.Author.Needs.{needs}

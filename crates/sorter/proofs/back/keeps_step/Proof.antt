@@ -1,3 +1,4 @@
+-- Return by return what the test of the two keys and the mark answers.
 use borrow.Author.Needs.{needs}
 use Rattle.sorter.proofs.back.keeps_step.Statement.{statement}
 use Rattle.sorter.proofs.back.keeps_step.Tie as tie

@@ -1,3 +1,4 @@
+-- Return by return what `lowerFeeding` answers.
 use borrow.Author.Needs.{needs}
 use Rattle.sorter.proofs.back.lower_feeding.Statement.{statement}
 use Rattle.sorter.proofs.back.lower_feeding.Tie as tie

@@ -1,3 +1,4 @@
+-- The call told apart has the number that was asked for.
 use borrow.Author.Needs.{needs}
 use Rattle.sorter.proofs.back.lowest_before.Statement.{statement}
 use Rattle.sorter.proofs.back.lowest_before.Tie as tie

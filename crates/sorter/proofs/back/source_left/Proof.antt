@@ -1,3 +1,4 @@
+-- The get remains, or it does not.
 use borrow.Author.Needs.{needs}
 use Rattle.sorter.proofs.back.source_left.Statement.{statement}
 use Rattle.sorter.proofs.back.source_left.Tie as tie

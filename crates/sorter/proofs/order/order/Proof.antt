@@ -1,3 +1,4 @@
+-- Case by case what `ordering` answers.
 use borrow.Author.Needs.{needs}
 use Rattle.sorter.proofs.order.order.Statement.{statement}
 use Rattle.sorter.proofs.order.order.Tie as tie

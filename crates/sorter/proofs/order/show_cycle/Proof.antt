@@ -1,3 +1,4 @@
+-- What the walk met, turned, is what is shown (`met-shown`).
 use borrow.Author.Needs.{needs}
 use Rattle.sorter.proofs.order.show_cycle.Statement.{statement}
 use Rattle.sorter.proofs.order.show_cycle.Tie as tie

@@ -1,3 +1,4 @@
+-- The front through the call ends at its first place, and its lowest call at its own.
 use borrow.Author.Needs.{needs}
 use Rattle.sorter.proofs.order.write_met.Statement.{statement}
 use Rattle.sorter.proofs.order.write_met.Tie as tie

@@ -1,3 +1,4 @@
+-- The lowest so far is at most each byte passed, and one of them or the bound.
 use Rattle.sorter.proofs.show.lowest_of.Statement.{statement}
 use Rattle.sorter.proofs.show.lowest_of.Tie as tie
 use borrow.Author.Needs.{needs}

@@ -1,3 +1,4 @@
+-- None passed over is the byte.
 use Rattle.sorter.proofs.show.place_of.Statement.{statement}
 use Rattle.sorter.proofs.show.place_of.Tie as tie
 use borrow.Author.Needs.{needs}

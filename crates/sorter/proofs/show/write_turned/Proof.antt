@@ -1,3 +1,4 @@
+-- What is written and what is to come is the list turned (`turning-on`).
 use Rattle.sorter.proofs.show.write_turned.Statement.{statement}
 use Rattle.sorter.proofs.show.write_turned.Tie as tie
 use borrow.Author.Needs.{needs}

@@ -1,3 +1,4 @@
+-- All passed over are marked.
 use Rattle.sorter.proofs.walk.lowest_left.Statement.{statement}
 use Rattle.sorter.proofs.walk.lowest_left.Tie as tie
 use borrow.Author.Needs.{needs}

@@ -1,3 +1,4 @@
+-- What is marked is what was passed (`mark-on`).
 use Rattle.sorter.proofs.walk.mark.Statement.{statement}
 use Rattle.sorter.proofs.walk.mark.Tie as tie
 use borrow.Author.Needs.{needs}

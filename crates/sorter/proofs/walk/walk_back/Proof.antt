@@ -1,3 +1,4 @@
+-- The trail holds at the start and after each call, and says where the walk ends.
 use Rattle.sorter.proofs.walk.walk_back.Statement.{statement}
 use Rattle.sorter.proofs.walk.walk_back.Tie as tie
 use mathlib.Core.Path.{refl, sym, _∙_}
