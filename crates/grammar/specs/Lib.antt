@@ -1,3 +1,4 @@
+pub mod Quoted
 pub mod Words
 pub mod Rows
 pub mod Draft
