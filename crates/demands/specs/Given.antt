@@ -12,7 +12,8 @@ use Rattle.calls.specs.Precedence.{precedes}
 use Rattle.orders.specs.First.{First}
 use Rattle.placing.specs.Placing.{Outcome, callCount}
 use Rattle.sorter.specs.Ordering.{ordering}
-use Rattle.sorter.specs.Demand.{ordering-unsound, ordering-short, order-first}
+use Rattle.sorter.specs.Answers.{ordering-unsound, ordering-short}
+use Rattle.sorter.specs.Demand.{order-first}
 
 -- `order` answers 0
 abbrev pub Given : List ℕ → ℕ → Type 0

@@ -15,7 +15,8 @@ use Rattle.orders.specs.Walk.{among}
 use Rattle.orders.specs.Turned.{Once, at-among}
 use Rattle.placing.specs.Placing.{callCount, placedOf}
 use Rattle.sorter.specs.Ordering.{ordering, shownOf}
-use Rattle.sorter.specs.Demand.{all-placed, not-placed, ordering-unsound, ordering-short}
+use Rattle.sorter.specs.Answers.{ordering-unsound, ordering-short}
+use Rattle.sorter.specs.Demand.{all-placed, not-placed}
 
 -- a list of calls below N, none of them twice, marks as many calls as it has places
 once-count : (N : ℕ) (l : List ℕ) → ((i : ℕ) → i < length l → getD l i 0 < N) → Once l

@@ -1,14 +1,14 @@
 -- The order's answer joined from what was placed.
-use mathlib.Core.Path.{_≡_, refl, sym, ap, subst, _∙_}
+use mathlib.Core.Path.{_≡_, refl, sym, ap, ap₂, _∙_}
 use mathlib.Core.List.{List, [], _∷_, _++_, append-nil}
-use Prim.Native.Nat.{ℕ, _≤_, _<_}
+use Prim.Native.Nat.{ℕ, _+_, _≤_, _<_}
 use native.Mathlib.Omega.{arith}
 use native.Mathlib.Decide.{ℕ-discrete}
 use lib.ListN.{length, take, drop, length-append, length-drop}
 use lib.Seq.{take-at}
 use Rattle.search.specs.Front.{fronted}
 use Rattle.table.specs.declared.Answer.{Answer}
-use Rattle.table.specs.Packed.{shapeOf}
+use Rattle.table.specs.Packed.{units, outputs, inputs, shapeOf}
 use Rattle.table.specs.Check.{refusal}
 use Rattle.table.specs.Checked.{passed-sound, few-calls}
 use Rattle.calls.specs.Precedence.{precedes}
@@ -17,8 +17,7 @@ use Rattle.orders.specs.Turn.{turn}
 use Rattle.placing.specs.Placing.{Outcome, outcome, callCount, placedOf, placing}
 use Rattle.placing.specs.Placed.{placing-unsound, placing-done}
 use Rattle.sorter.specs.Ordering.{shownOf, ordering}
-use Rattle.sorter.specs.Demand.{
-  ordering-unsound,
+use Rattle.sorter.specs.Answers.{
   ordering-short,
   ordering-settled,
   settled-all,
@@ -26,6 +25,10 @@ use Rattle.sorter.specs.Demand.{
   stopped-none,
   stopped-shown,
 }
+
+-- N as the code counts it
+pub count-is : (t : List ℕ) {u y x : ℕ} → u ≡ units t → y ≡ outputs t → x ≡ inputs t → u + y + x ≡ callCount t
+count-is t a b c = ap₂ _+_ (ap₂ _+_ a b) c
 
 -- what was placed, where the table is sound
 pub placing-is : (t : List ℕ) → refusal t ≡ 0 → placing t 224 ≡ outcome 0 (length (placedOf t)) (placedOf t)
@@ -45,11 +48,8 @@ module _ (t : List ℕ) (a : Answer) (e : a ≡ placing t 224 .answer) where
   pub refused : (a .number ≡ 0 → ⊥) → refusal t ≡ 0 → ⊥
   refused n z = n (ap (λ (r : Answer). r .number) e ∙ ap (λ (o : Outcome). o .answer .number) (placing-is t z))
 
-  pub refused-answer : (room : ℕ) → (a .number ≡ 0 → ⊥) → a ≡ ordering t room .answer
-  refused-answer room n =
-      e
-      ∙ ap (λ (o : Outcome). o .answer) (placing-unsound t 224 (refused n))
-      ∙ sym (ap (λ (o : Outcome). o .answer) (ordering-unsound t room (refused n)))
+  pub refused-answer : (a .number ≡ 0 → ⊥) → a ≡ outcome (refusal t) 0 [] .answer
+  refused-answer n = e ∙ ap (λ (o : Outcome). o .answer) (placing-unsound t 224 (refused n))
 
 -- the calls stand at the front of the list
 pub calls-are : (t calls zeros : List ℕ) (n : ℕ) → refusal t ≡ 0 → calls ≡ fronted (placing t 224 .bytes) zeros

@@ -1,64 +1,28 @@
 -- Demand 2, first half: for a sound table and enough room, an order exactly where no cycle exists, else a cycle.
-use mathlib.Core.Path.{_≡_, refl, sym, ap, _∙_}
+use mathlib.Core.Path.{_≡_, sym, ap, _∙_}
 use mathlib.Core.Logic.{_↔_}
-use mathlib.Core.Bool.{true, false, cond}
-use mathlib.Core.List.{List, []}
+use mathlib.Core.List.{List}
 use Prim.Native.Nat.{ℕ, _≤_, _<_}
 use native.Mathlib.Omega.{arith}
 use native.Mathlib.Decide.{ℕ-discrete}
-use lib.Dec.{eqb}
-use lib.ListN.{length}
-use borrow.Author.Tests.{le-leb, lt-leb}
-use Rattle.search.specs.Truth.{is-true, is-false, eq-true, eq-false}
+use lib.ListN.{length, take, drop}
+use lib.Seq.{take-at}
+use Rattle.search.specs.Front.{fronted}
+use Rattle.table.specs.declared.Answer.{Answer}
 use Rattle.table.specs.Sound.{Sound}
 use Rattle.table.specs.Packed.{shapeOf}
-use Rattle.table.specs.Check.{refusal}
 use Rattle.table.specs.Checked.{sound-passed}
 use Rattle.calls.specs.Precedence.{precedes}
 use Rattle.orders.specs.Cycle.{Cycle}
 use Rattle.orders.specs.First.{First}
-use Rattle.orders.specs.Walk.{among}
-use Rattle.orders.specs.Sort.{placed}
 use Rattle.orders.specs.Sorted.{placed-first}
 use Rattle.orders.specs.Remains.{placed-le}
 use Rattle.orders.specs.Shown.{Shown, shown-is, placed-iff}
 use Rattle.placing.specs.Placing.{Outcome, outcome, callCount, placedOf}
-use Rattle.sorter.specs.Ordering.{shownOf, stopped, settled, ordering}
+use Rattle.sorter.specs.Ordering.{shownOf, ordering}
+use Rattle.sorter.specs.OrderOrCycle.{OrderOrCycle}
+use Rattle.sorter.specs.Answers.{ordering-settled, settled-all, settled-some, stopped-shown}
 
--- ---- what is answered, case by case
-module _ (t : List ℕ) (room : ℕ) where
-  pub ordering-unsound : (refusal t ≡ 0 → ⊥) → ordering t room ≡ outcome (refusal t) 0 []
-  unfolding ordering
-  ordering-unsound n = rw (is-false (eqb (refusal t) 0) (eq-false (refusal t) 0 n))
-
-  pub ordering-short : refusal t ≡ 0 → room < callCount t → ordering t room ≡ outcome 8 0 []
-  unfolding ordering
-  ordering-short e h = rw (e, lt-leb (callCount t) room h)
-
-  pub ordering-settled : refusal t ≡ 0 → callCount t ≤ room → ordering t room ≡ settled t
-  unfolding ordering
-  ordering-settled e h = rw (e, le-leb (callCount t) room h)
-
-module _ (t : List ℕ) where
-  pub settled-all : length (placedOf t) ≡ callCount t → settled t ≡ outcome 0 (callCount t) (placedOf t)
-  unfolding settled
-  settled-all e =
-      rw (is-true (eqb (length (placedOf t)) (callCount t)) (eq-true (length (placedOf t)) (callCount t) e))
-
-  pub settled-some : (length (placedOf t) ≡ callCount t → ⊥) → settled t ≡ stopped t
-  unfolding settled
-  settled-some n =
-      rw (is-false (eqb (length (placedOf t)) (callCount t)) (eq-false (length (placedOf t)) (callCount t) n))
-
-  pub stopped-none : length (shownOf t) ≡ 0 → stopped t ≡ outcome 10 0 []
-  unfolding stopped
-  stopped-none e = rw e
-
-  pub stopped-shown : (length (shownOf t) ≡ 0 → ⊥) → stopped t ≡ outcome 9 (length (shownOf t)) (shownOf t)
-  unfolding stopped
-  stopped-shown n = rw (is-false (eqb (length (shownOf t)) 0) (eq-false (length (shownOf t)) 0 n))
-
--- ---- the demand
 module _ (t : List ℕ) (room : ℕ) (sound : Sound t) (enough : callCount t ≤ room) where
   -- a cycle of the table's calls
   abbrev IsCycle : List ℕ → Type 0
@@ -141,3 +105,37 @@ module _ (t : List ℕ) (room : ℕ) (sound : Sound t) (enough : callCount t ≤
           rw o c,
         ))
   ]
+
+-- ---- the clause of `order` that states the demand follows from those that determine the answer and the bytes
+module _ (t out : List ℕ) (sound : Sound t) (enough : callCount t ≤ length out) where
+  -- as many bytes stand at the front as the place says
+  given : length (ordering t (length out) .bytes) ≡ ordering t (length out) .answer .place
+  given = elim (ℕ-discrete (length (placedOf t)) (callCount t)) [
+    | yes p ↦ rw (all-placed t (length out) sound enough p .0) p
+    | no p ↦ rw (not-placed t (length out) sound enough p .0)
+  ]
+
+  front : take (ordering t (length out) .answer .place) (fronted (ordering t (length out) .bytes) out)
+      ≡ ordering t (length out) .bytes
+  front =
+      let bytes = ordering t (length out) .bytes in
+      take-at bytes (drop (length bytes) out) (ordering t (length out) .answer .place) given
+
+  pub order-or-cycle : OrderOrCycle t (ordering t (length out) .answer)
+      (take (ordering t (length out) .answer .place) (fronted (ordering t (length out) .bytes) out))
+  order-or-cycle = rw front record {
+    produced = order-iff t (length out) sound enough;
+    first = λ e. let (f, p) = order-first t (length out) sound enough e in (p, f);
+    shown = λ n. let (e, p, c) = order-else t (length out) sound enough n in (e, c .cycle);
+  }
+
+-- all that `order` promises, from what is answered and what is written
+pub clauses : (t out after : List ℕ) (r : Answer) (o : Outcome) → ordering t (length out) ≡ o
+    → r ≡ o .answer → after ≡ fronted (o .bytes) out
+    → (r ≡ ordering t (length out) .answer)
+    × ((after ≡ fronted (ordering t (length out) .bytes) out)
+    × (Sound t → callCount t ≤ length out → OrderOrCycle t r (take (r .place) after)))
+clauses t out after r o e a b =
+    let a : r ≡ ordering t (length out) .answer = rw e a in
+    let b : after ≡ fronted (ordering t (length out) .bytes) out = rw e b in
+    (a, (b, λ sound enough. rw (a, b) (order-or-cycle t out sound enough)))

@@ -1,5 +1,7 @@
 pub mod Marks
 pub mod Trail
 pub mod Ordering
+pub mod OrderOrCycle
+pub mod Answers
 pub mod Demand
 pub mod Determined

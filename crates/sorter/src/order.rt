@@ -9,6 +9,7 @@ ghost use Rattle.orders.specs.Walk.{among, upto};
 ghost use Rattle.orders.specs.Turn.{turn, lowestPlace};
 ghost use Rattle.placing.specs.Placing.{callCount, placedOf};
 ghost use Rattle.sorter.specs.Ordering.{shownOf, ordering};
+ghost use Rattle.sorter.specs.OrderOrCycle.{OrderOrCycle};
 use crate::show::lowest_of;
 use crate::show::place_of;
 use crate::show::write_turned;
@@ -65,6 +66,8 @@ pub fn order(table: &[u8], out: &mut [u8]) -> Answer
     ensures { λ r. ⌜ r ≡ ordering (now (table .entry)) (length (now (out .entry))) .answer ⌝ }
     ensures { λ r. ⌜ now (out .exit)
         ≡ fronted (ordering (now (table .entry)) (length (now (out .entry))) .bytes) (now (out .entry)) ⌝ }
+    ensures { λ r. ⌜ (Sound (now (table .entry)) → callCount (now (table .entry)) ≤ length (now (out .entry))
+        → OrderOrCycle (now (table .entry)) r (take (r .place) (now (out .exit)))) ⌝ }
 {
     let mut calls: [u8; 224] = [0; 224];
     let answer = place_all(table, &mut calls);

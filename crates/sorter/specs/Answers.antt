@@ -1,0 +1,43 @@
+-- What is answered, case by case.
+use mathlib.Core.Path.{_≡_}
+use mathlib.Core.List.{List, []}
+use Prim.Native.Nat.{ℕ, _≤_, _<_}
+use lib.Dec.{eqb}
+use lib.ListN.{length}
+use borrow.Author.Tests.{le-leb, lt-leb}
+use Rattle.search.specs.Truth.{is-true, is-false, eq-true, eq-false}
+use Rattle.table.specs.Check.{refusal}
+use Rattle.placing.specs.Placing.{outcome, callCount, placedOf}
+use Rattle.sorter.specs.Ordering.{shownOf, stopped, settled, ordering}
+
+module _ (t : List ℕ) (room : ℕ) where
+  pub ordering-unsound : (refusal t ≡ 0 → ⊥) → ordering t room ≡ outcome (refusal t) 0 []
+  unfolding ordering
+  ordering-unsound n = rw (is-false (eqb (refusal t) 0) (eq-false (refusal t) 0 n))
+
+  pub ordering-short : refusal t ≡ 0 → room < callCount t → ordering t room ≡ outcome 8 0 []
+  unfolding ordering
+  ordering-short e h = rw (e, lt-leb (callCount t) room h)
+
+  pub ordering-settled : refusal t ≡ 0 → callCount t ≤ room → ordering t room ≡ settled t
+  unfolding ordering
+  ordering-settled e h = rw (e, le-leb (callCount t) room h)
+
+module _ (t : List ℕ) where
+  pub settled-all : length (placedOf t) ≡ callCount t → settled t ≡ outcome 0 (callCount t) (placedOf t)
+  unfolding settled
+  settled-all e =
+      rw (is-true (eqb (length (placedOf t)) (callCount t)) (eq-true (length (placedOf t)) (callCount t) e))
+
+  pub settled-some : (length (placedOf t) ≡ callCount t → ⊥) → settled t ≡ stopped t
+  unfolding settled
+  settled-some n =
+      rw (is-false (eqb (length (placedOf t)) (callCount t)) (eq-false (length (placedOf t)) (callCount t) n))
+
+  pub stopped-none : length (shownOf t) ≡ 0 → stopped t ≡ outcome 10 0 []
+  unfolding stopped
+  stopped-none e = rw e
+
+  pub stopped-shown : (length (shownOf t) ≡ 0 → ⊥) → stopped t ≡ outcome 9 (length (shownOf t)) (shownOf t)
+  unfolding stopped
+  stopped-shown n = rw (is-false (eqb (length (shownOf t)) 0) (eq-false (length (shownOf t)) 0 n))
