@@ -8,9 +8,7 @@ ghost use Rattle.judge.specs.Taken.{fresh, taken};
 use crate::conditions::refusal_at;
 use table::Answer;
 use table::check::check;
-use table::parts::input_count;
-use table::parts::output_count;
-use table::parts::unit_count;
+use table::parts::call_count;
 
 mod conditions;
 pub mod records;
@@ -90,7 +88,7 @@ fn in_turn(table: &[u8], order: &[u8]) -> Answer
 fn ended(table: &[u8], taken: usize) -> Answer
     ensures { λ r. ⌜ r ≡ atEnd (shapeOf (now (table .entry))) taken ⌝ }
 {
-    if taken != unit_count(table) + output_count(table) + input_count(table) {
+    if taken != call_count(table) {
         return Answer {
             number: 18,
             place: taken,

@@ -1,14 +1,14 @@
 -- The order's answer joined from what was placed.
-use mathlib.Core.Path.{_≡_, refl, sym, ap, ap₂, _∙_}
+use mathlib.Core.Path.{_≡_, refl, sym, ap, _∙_}
 use mathlib.Core.List.{List, [], _∷_, _++_, append-nil}
-use Prim.Native.Nat.{ℕ, _+_, _≤_, _<_}
+use Prim.Native.Nat.{ℕ, _≤_, _<_}
 use native.Mathlib.Omega.{arith}
 use native.Mathlib.Decide.{ℕ-discrete}
 use lib.ListN.{length, take, drop, length-append, length-drop}
 use lib.Seq.{take-at}
 use Rattle.search.specs.Front.{fronted}
 use Rattle.table.specs.declared.Answer.{Answer}
-use Rattle.table.specs.Packed.{units, outputs, inputs, shapeOf}
+use Rattle.table.specs.Packed.{shapeOf}
 use Rattle.table.specs.Check.{refusal}
 use Rattle.table.specs.Checked.{passed-sound, few-calls}
 use Rattle.calls.specs.Precedence.{precedes}
@@ -25,10 +25,6 @@ use Rattle.sorter.specs.Answers.{
   stopped-none,
   stopped-shown,
 }
-
--- N as the code counts it
-pub count-is : (t : List ℕ) {u y x : ℕ} → u ≡ units t → y ≡ outputs t → x ≡ inputs t → u + y + x ≡ callCount t
-count-is t a b c = ap₂ _+_ (ap₂ _+_ a b) c
 
 -- what was placed, where the table is sound
 pub placing-is : (t : List ℕ) → refusal t ≡ 0 → placing t 224 ≡ outcome 0 (length (placedOf t)) (placedOf t)
@@ -66,6 +62,12 @@ pub calls-long : (t calls zeros : List ℕ) → refusal t ≡ 0 → length zeros
 calls-long t calls zeros z l e =
     rw (e, placing-is t z)
     (simp (length-append, length-drop) (omega (arith, placed-most t, few-calls t (passed-sound t z))))
+
+-- there is room for N calls
+pub calls-room : (t calls zeros : List ℕ) (count : ℕ) → refusal t ≡ 0 → count ≡ callCount t → length zeros ≡ 224
+    → calls ≡ fronted (placing t 224 .bytes) zeros → count ≤ length calls
+calls-room t calls zeros count z n l e =
+    omega (arith, calls-long t calls zeros z l e, few-calls t (passed-sound t z))
 
 -- ---- the answers, return by return
 module _ (t : List ℕ) (room count : ℕ) (z : refusal t ≡ 0) (n : count ≡ callCount t) where

@@ -15,6 +15,7 @@ ghost use Rattle.sorter.specs.Marks.{marked, keepsGet, lowerFeeding, sou
 use calls::Call;
 use calls::number::call_of;
 use table::parts::byte;
+use table::parts::call_count;
 use table::parts::feed_count;
 use table::parts::feed_pairs;
 use table::parts::input_count;
@@ -138,7 +139,7 @@ fn source_left(table: &[u8], input: usize, marks: &[u8; 224]) -> usize
     if marks[get] == 0 {
         return get;
     }
-    unit_count(table) + output_count(table) + input_count(table)
+    call_count(table)
 }
 
 // Of a set: the step of its unit where it is delayed, then its source's get.

@@ -17,9 +17,7 @@ use crate::walk::mark;
 use crate::walk::walk_back;
 use placing::place::place_all;
 use table::Answer;
-use table::parts::input_count;
-use table::parts::output_count;
-use table::parts::unit_count;
+use table::parts::call_count;
 
 // Writes the front of what was seen through the call met again, from its lowest call on; gives its length.
 fn write_met(seen: &[u8], call: u8, count: u8, out: &mut [u8]) -> usize
@@ -75,7 +73,7 @@ pub fn order(table: &[u8], out: &mut [u8]) -> Answer
         return answer;
     }
     let placed = answer.place;
-    let count = unit_count(table) + output_count(table) + input_count(table);
+    let count = call_count(table);
     if out.len() < count {
         return Answer {
             number: 8,

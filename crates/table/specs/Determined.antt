@@ -4,6 +4,7 @@ use mathlib.Core.List.{List}
 use Prim.Native.Nat.{ℕ}
 use lib.ListN.{getD}
 use Rattle.table.specs.declared.Answer.{Answer}
+use Rattle.table.specs.Shape.{total}
 use Rattle.table.specs.Packed.{
   units,
   outputs,
@@ -15,6 +16,7 @@ use Rattle.table.specs.Packed.{
   kinds,
   sources,
   pairs,
+  shapeOf,
 }
 use Rattle.table.specs.Check.{checked}
 
@@ -46,6 +48,9 @@ input-count-determined t = same-answer
 
 pub feed-count-determined : (t : List ℕ) → Determined ℕ (feeds t)
 feed-count-determined t = same-answer
+
+pub call-count-determined : (t : List ℕ) → Determined ℕ (total (shapeOf t))
+call-count-determined t = same-answer
 
 pub output-owners-determined : (t : List ℕ) → Determined (List ℕ) (outputOwners t)
 output-owners-determined t = same-answer

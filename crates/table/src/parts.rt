@@ -2,6 +2,7 @@
 ghost use mathlib.Core.Path.{_≡_};
 ghost use Prim.Native.Nat.{_<_};
 ghost use lib.ListN.{getD};
+ghost use Rattle.table.specs.Shape.{total};
 ghost use Rattle.table.specs.Packed.{
   units,
   outputs,
@@ -13,6 +14,7 @@ ghost use Rattle.table.specs.Packed.{
   kinds,
   sources,
   pairs,
+  shapeOf,
 };
 
 // The byte at a place, 0 past the end.
@@ -71,6 +73,13 @@ pub fn feed_count(table: &[u8]) -> usize
     ensures { λ r. ⌜ r < 256 ⌝ }
 {
     byte(table, 3)
+}
+
+// N.
+pub fn call_count(table: &[u8]) -> usize
+    ensures { λ r. ⌜ r ≡ total (shapeOf (now (table .entry))) ⌝ }
+{
+    unit_count(table) + output_count(table) + input_count(table)
 }
 
 // The owner unit of each output.

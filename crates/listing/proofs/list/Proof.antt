@@ -41,7 +41,7 @@ same-length-2 : tie.Need-same-length-2
 same-length-2 c = search needs
 
 returns-2 : tie.Need-returns-2
-returns-2 c = same-listed (list-ordered _ _ _ _ (c .before .before .before .before .before .before .before .before .before .before .before .before .before .read .ensures) (c .before .before .before .before .before .before .before .before .before .before .if1 .left) _ _ _ (c .before .before .before .before .before .before .before .before .stretch .ensures) (c .before .before .before .before .before .before .order .ensures .0) (c .before .before .before .before .before .before .order .ensures .1)) (c .before .before .put-outcome .ensures)
+returns-2 c = same-listed (list-ordered _ _ _ _ (c .before .before .before .before .before .before .before .before .before .before .before .before .before .read .ensures) (c .before .before .before .before .before .before .before .before .before .before .if1 .left) _ _ _ (c .before .before .before .before .before .before .before .before .stretch .ensures) (c .before .before .before .before .before .before .order .ensures .0) (c .before .before .before .before .before .before .order .ensures .1 .0)) (c .before .before .put-outcome .ensures)
 
 pub list-spec : {M : Type 1} → statement M
 list-spec =

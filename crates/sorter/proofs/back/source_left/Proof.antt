@@ -28,23 +28,18 @@ element-copy-out-if1 c = let a = c .before .before .before .before .args in let 
 returns : tie.Need-returns
 returns c = let a = c .before .before .before .before .before .before .args in let e = ap₂ _+_ (c .before .before .before .before .unit-count .ensures .0) (c .before .before .byte .ensures .0 ∙ ap (λ l. getD l (a .input) 0) (c .before .before .before .input-sources .ensures)) in e ∙ source-stays (shapeOf (a .table .now)) (a .marks .now) (a .input) (subst (λ n. _≡_ {A = ℕ} (getD (a .marks .now) n 0) 0) e (c .if1 .taken))
 
-unit-count-requires-2 : tie.Need-unit-count-requires-2
-unit-count-requires-2 c κs = search needs
-
-output-count-requires : tie.Need-output-count-requires
-output-count-requires c κs = search needs
-
-add-result : tie.Need-add-result
-add-result c = search needs
-
-input-count-requires : tie.Need-input-count-requires
-input-count-requires c κs = search needs
-
-add-result-2 : tie.Need-add-result-2
-add-result-2 c = search needs
+call-count-requires : tie.Need-call-count-requires
+call-count-requires c κs = search needs
 
 returns-2 : tie.Need-returns-2
-returns-2 c = let a = c .before .before .before .before .before .before .before .before .before .args in let e = ap₂ _+_ (c .before .before .before .before .before .before .before .unit-count .ensures .0) (c .before .before .before .before .before .byte .ensures .0 ∙ ap (λ l. getD l (a .input) 0) (c .before .before .before .before .before .before .input-sources .ensures)) in ap₂ _+_ (ap₂ _+_ (c .before .before .unit-count2 .ensures .0) (c .before .output-count .ensures .0)) (c .input-count .ensures .0) ∙ source-done (shapeOf (a .table .now)) (a .marks .now) (a .input) (λ z. c .before .before .before .if1 .left (subst (λ n. _≡_ {A = ℕ} (getD (a .marks .now) n 0) 0) (sym e) z))
+returns-2 c =
+    let a = c .before .before .before .before .before .before .before .args in
+    let e =
+    ap₂ _+_ (c .before .before .before .before .before .unit-count .ensures .0)
+    (c .before .before .before .byte .ensures .0 ∙ ap (λ l. getD l (a .input) 0) (c .before .before .before .before .input-sources .ensures)) in
+    c .call-count .ensures
+    ∙ source-done (shapeOf (a .table .now)) (a .marks .now) (a .input)
+    (λ z. c .before .if1 .left (subst (λ n. _≡_ {A = ℕ} (getD (a .marks .now) n 0) 0) (sym e) z))
 
 pub source-left-spec : {M : Type 1} → statement M
 source-left-spec =
@@ -56,9 +51,5 @@ source-left-spec =
     add-get
     element-copy-out-if1
     returns
-    unit-count-requires-2
-    output-count-requires
-    add-result
-    input-count-requires
-    add-result-2
+    call-count-requires
     returns-2)

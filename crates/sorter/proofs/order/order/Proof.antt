@@ -11,7 +11,7 @@ use Rattle.search.specs.Front.{fronted}
 use Rattle.table.specs.Checked.{passed-sound, few-calls}
 use Rattle.sorter.specs.Answers.{ordering-unsound}
 use Rattle.sorter.specs.Demand.{clauses}
-use Rattle.sorter.proofs.Joined.{count-is, place-is, not-refused, refused, refused-answer, calls-are, calls-long, placed-most, order-short, order-all, order-none, order-cycle, turned-none}
+use Rattle.sorter.proofs.Joined.{place-is, not-refused, refused, refused-answer, calls-are, calls-long, calls-room, placed-most, order-short, order-all, order-none, order-cycle, turned-none}
 
 slice-aggregate-place-all : tie.Need-slice-aggregate-place-all
 slice-aggregate-place-all c = search needs
@@ -27,64 +27,50 @@ returns c =
     clauses t out _ _ _ (ordering-unsound t (length out) (refused t _ e (c .if1 .taken)))
     (refused-answer t _ e (c .if1 .taken)) refl
 
-unit-count-requires : tie.Need-unit-count-requires
-unit-count-requires c κs = search needs
-
-output-count-requires : tie.Need-output-count-requires
-output-count-requires c κs = search needs
-
-add-count : tie.Need-add-count
-add-count c = search needs
-
-input-count-requires : tie.Need-input-count-requires
-input-count-requires c κs = search needs
-
-add-count-2 : tie.Need-add-count-2
-add-count-2 c = search needs
+call-count-requires : tie.Need-call-count-requires
+call-count-requires c κs = search needs
 
 returns-2 : tie.Need-returns-2
 returns-2 c =
-    let t = c .before .before .before .before .before .before .before .before .before .before .before .args .table .now in
-    let out = c .before .before .before .before .before .before .before .before .before .before .before .args .out .now in
-    let z = not-refused t _ (c .before .before .before .before .before .before .before .place-all .ensures .0) (c .before .before .before .before .if1 .left) in
-    let n = count-is t (c .before .before .before .unit-count .ensures .0) (c .before .before .output-count .ensures .0) (c .before .input-count .ensures .0) in
+    let t = c .before .before .before .before .before .before .before .before .before .args .table .now in
+    let out = c .before .before .before .before .before .before .before .before .before .args .out .now in
+    let z = not-refused t _ (c .before .before .before .before .before .place-all .ensures .0) (c .before .before .if1 .left) in
+    let n = c .before .call-count .ensures in
     clauses t out _ _ _ (order-short t (length out) _ z n (c .if2 .taken)) refl refl
 
 array-share-prefix-calls : tie.Need-array-share-prefix-calls
 array-share-prefix-calls c =
-    let t = c .before .before .before .before .before .before .before .before .before .before .before .before .args .table .now in
-    let z = not-refused t _ (c .before .before .before .before .before .before .before .before .place-all .ensures .0) (c .before .before .before .before .before .if1 .left) in
-    let n = count-is t (c .before .before .before .before .unit-count .ensures .0) (c .before .before .before .output-count .ensures .0) (c .before .before .input-count .ensures .0) in
-    omega (arith, n, calls-long t _ _ z refl (c .before .before .before .before .before .before .before .before .place-all .ensures .1), few-calls t (passed-sound t z))
+    let t = c .before .before .before .before .before .before .before .before .before .before .args .table .now in
+    let p = c .before .before .before .before .before .before .place-all .ensures in
+    let z = not-refused t _ (p .0) (c .before .before .before .if1 .left) in
+    calls-room t _ _ _ z (c .before .before .call-count .ensures) refl (p .1)
 
 slice-aggregate-write-turned : tie.Need-slice-aggregate-write-turned
 slice-aggregate-write-turned c =
-    let t = c .before .before .before .before .before .before .before .before .before .before .before .before .before .args .table .now in
-    let z = not-refused t _ (c .before .before .before .before .before .before .before .before .before .place-all .ensures .0) (c .before .before .before .before .before .before .if1 .left) in
-    let n = count-is t (c .before .before .before .before .before .unit-count .ensures .0) (c .before .before .before .before .output-count .ensures .0) (c .before .before .before .input-count .ensures .0) in
-    sym (length-take-le (c .before .before .before .before .before .unit-count .result + c .before .before .before .before .output-count .result + c .before .before .before .input-count .result) (c .before .before .before .before .before .before .before .before .before .place-all .last .1 .0) (omega (arith, n, calls-long t _ _ z refl (c .before .before .before .before .before .before .before .before .before .place-all .ensures .1), few-calls t (passed-sound t z))))
+    let t = c .before .before .before .before .before .before .before .before .before .before .before .args .table .now in
+    let p = c .before .before .before .before .before .before .before .place-all .ensures in
+    let z = not-refused t _ (p .0) (c .before .before .before .before .if1 .left) in
+    sym (length-take-le _ _ (calls-room t _ _ _ z (c .before .before .before .call-count .ensures) refl (p .1)))
 
 write-turned-requires : tie.Need-write-turned-requires
 write-turned-requires c κs =
-    let t = c .before .before .before .before .before .before .before .before .before .before .before .before .before .before .args .table .now in
-    let z = not-refused t _ (c .before .before .before .before .before .before .before .before .before .before .place-all .ensures .0) (c .before .before .before .before .before .before .before .if1 .left) in
-    let n = count-is t (c .before .before .before .before .before .before .unit-count .ensures .0) (c .before .before .before .before .before .output-count .ensures .0) (c .before .before .before .before .input-count .ensures .0) in
-    let l = length-take-le (c .before .before .before .before .before .before .unit-count .result + c .before .before .before .before .before .output-count .result + c .before .before .before .before .input-count .result) (c .before .before .before .before .before .before .before .before .before .before .place-all .last .1 .0) (omega (arith, n, calls-long t _ _ z refl (c .before .before .before .before .before .before .before .before .before .before .place-all .ensures .1), few-calls t (passed-sound t z))) in
-    (
-      omega (arith, l, n, passed-sound t z .counted .units-some),
-      omega (arith, l, c .before .before .before .if2 .left),
-    )
+    let t = c .before .before .before .before .before .before .before .before .before .before .before .before .args .table .now in
+    let p = c .before .before .before .before .before .before .before .before .place-all .ensures in
+    let z = not-refused t _ (p .0) (c .before .before .before .before .before .if1 .left) in
+    let n = c .before .before .before .before .call-count .ensures in
+    let l = length-take-le (c .before .before .before .before .call-count .result) (c .before .before .before .before .before .before .before .before .place-all .last .1 .0) (calls-room t _ _ _ z n refl (p .1)) in
+    (omega (arith, l, n, passed-sound t z .counted .units-some), omega (arith, l, c .before .before .before .if2 .left))
 
 same-length : tie.Need-same-length
 same-length c = search needs
 
 returns-3 : tie.Need-returns-3
 returns-3 c =
-    let t = c .before .before .before .before .before .before .before .before .before .before .before .before .before .before .before .before .before .args .table .now in
-    let out = c .before .before .before .before .before .before .before .before .before .before .before .before .before .before .before .before .before .args .out .now in
-    let p = c .before .before .before .before .before .before .before .before .before .before .before .before .before .place-all .ensures in
-    let z = not-refused t _ (p .0) (c .before .before .before .before .before .before .before .before .before .before .if1 .left) in
-    let n = count-is t (c .before .before .before .before .before .before .before .before .before .unit-count .ensures .0) (c .before .before .before .before .before .before .before .before .output-count .ensures .0) (c .before .before .before .before .before .before .before .input-count .ensures .0) in
+    let t = c .before .before .before .before .before .before .before .before .before .before .before .before .before .before .before .args .table .now in
+    let out = c .before .before .before .before .before .before .before .before .before .before .before .before .before .before .before .args .out .now in
+    let p = c .before .before .before .before .before .before .before .before .before .before .before .place-all .ensures in
+    let z = not-refused t _ (p .0) (c .before .before .before .before .before .before .before .before .if1 .left) in
+    let n = c .before .before .before .before .before .before .before .call-count .ensures in
     let q = sym (place-is t _ (p .0) z) ∙ c .before .before .before .before .before .if3 .taken in
     clauses t out _ _ _ (order-all t (length out) _ z n (c .before .before .before .before .before .before .if2 .left) q) refl
     (c .before .before .write-turned .ensures
@@ -92,28 +78,25 @@ returns-3 c =
 
 slice-aggregate-show-cycle : tie.Need-slice-aggregate-show-cycle
 slice-aggregate-show-cycle c =
-    let t = c .before .before .before .before .before .before .before .before .before .before .before .before .before .args .table .now in
-    let z = not-refused t _ (c .before .before .before .before .before .before .before .before .before .place-all .ensures .0) (c .before .before .before .before .before .before .if1 .left) in
-    sym (calls-long t _ _ z refl (c .before .before .before .before .before .before .before .before .before .place-all .ensures .1))
+    let t = c .before .before .before .before .before .before .before .before .before .before .before .args .table .now in
+    let p = c .before .before .before .before .before .before .before .place-all .ensures in
+    let z = not-refused t _ (p .0) (c .before .before .before .before .if1 .left) in
+    sym (calls-long t _ _ z refl (p .1))
 
 show-cycle-requires : tie.Need-show-cycle-requires
 show-cycle-requires c κs =
-    let t = c .before .before .before .before .before .before .before .before .before .before .before .before .before .before .args .table .now in
-    let z = not-refused t _ (c .before .before .before .before .before .before .before .before .before .before .place-all .ensures .0) (c .before .before .before .before .before .before .before .if1 .left) in
-    let n = count-is t (c .before .before .before .before .before .before .unit-count .ensures .0) (c .before .before .before .before .before .output-count .ensures .0) (c .before .before .before .before .input-count .ensures .0) in
-    (
+    let t = c .before .before .before .before .before .before .before .before .before .before .before .before .args .table .now in
+    let p = c .before .before .before .before .before .before .before .before .place-all .ensures in
+    let z = not-refused t _ (p .0) (c .before .before .before .before .before .if1 .left) in
+    let k = place-is t _ (p .0) z in
+    let room = c .before .before .before .if2 .left in
+    let long = calls-long t _ _ z refl (p .1) in (
       passed-sound t z,
       (
-        n,
+        c .before .before .before .before .call-count .ensures,
         (
-          calls-long t _ _ z refl (c .before .before .before .before .before .before .before .before .before .before .place-all .ensures .1),
-          (
-            omega (arith, place-is t _ (c .before .before .before .before .before .before .before .before .before .before .place-all .ensures .0) z, placed-most t, few-calls t (passed-sound t z)),
-            (
-              calls-are t _ _ _ z (c .before .before .before .before .before .before .before .before .before .before .place-all .ensures .1) (place-is t _ (c .before .before .before .before .before .before .before .before .before .before .place-all .ensures .0) z),
-              c .before .before .before .if2 .left,
-            ),
-          ),
+          long,
+          (omega (arith, k, placed-most t, few-calls t (passed-sound t z)), (calls-are t _ _ _ z (p .1) k, room)),
         ),
       ),
     )
@@ -123,11 +106,11 @@ same-length-2 c = search needs
 
 returns-4 : tie.Need-returns-4
 returns-4 c =
-    let t = c .before .before .before .before .before .before .before .before .before .before .before .before .before .before .before .before .before .before .before .args .table .now in
-    let out = c .before .before .before .before .before .before .before .before .before .before .before .before .before .before .before .before .before .before .before .args .out .now in
-    let p = c .before .before .before .before .before .before .before .before .before .before .before .before .before .before .before .place-all .ensures in
-    let z = not-refused t _ (p .0) (c .before .before .before .before .before .before .before .before .before .before .before .before .if1 .left) in
-    let n = count-is t (c .before .before .before .before .before .before .before .before .before .before .before .unit-count .ensures .0) (c .before .before .before .before .before .before .before .before .before .before .output-count .ensures .0) (c .before .before .before .before .before .before .before .before .before .input-count .ensures .0) in
+    let t = c .before .before .before .before .before .before .before .before .before .before .before .before .before .before .before .before .before .args .table .now in
+    let out = c .before .before .before .before .before .before .before .before .before .before .before .before .before .before .before .before .before .args .out .now in
+    let p = c .before .before .before .before .before .before .before .before .before .before .before .before .before .place-all .ensures in
+    let z = not-refused t _ (p .0) (c .before .before .before .before .before .before .before .before .before .before .if1 .left) in
+    let n = c .before .before .before .before .before .before .before .before .before .call-count .ensures in
     let shown = c .before .before .before .before .show-cycle .ensures in
     clauses t out _ _ _
     (order-none t (length out) _ z n (c .before .before .before .before .before .before .before .before .if2 .left)
@@ -138,11 +121,11 @@ same-length-3 c = search needs
 
 returns-5 : tie.Need-returns-5
 returns-5 c =
-    let t = c .before .before .before .before .before .before .before .before .before .before .before .before .before .before .before .before .before .before .before .args .table .now in
-    let out = c .before .before .before .before .before .before .before .before .before .before .before .before .before .before .before .before .before .before .before .args .out .now in
-    let p = c .before .before .before .before .before .before .before .before .before .before .before .before .before .before .before .place-all .ensures in
-    let z = not-refused t _ (p .0) (c .before .before .before .before .before .before .before .before .before .before .before .before .if1 .left) in
-    let n = count-is t (c .before .before .before .before .before .before .before .before .before .before .before .unit-count .ensures .0) (c .before .before .before .before .before .before .before .before .before .before .output-count .ensures .0) (c .before .before .before .before .before .before .before .before .before .input-count .ensures .0) in
+    let t = c .before .before .before .before .before .before .before .before .before .before .before .before .before .before .before .before .before .args .table .now in
+    let out = c .before .before .before .before .before .before .before .before .before .before .before .before .before .before .before .before .before .args .out .now in
+    let p = c .before .before .before .before .before .before .before .before .before .before .before .before .before .place-all .ensures in
+    let z = not-refused t _ (p .0) (c .before .before .before .before .before .before .before .before .before .before .if1 .left) in
+    let n = c .before .before .before .before .before .before .before .before .before .call-count .ensures in
     let shown = c .before .before .before .before .show-cycle .ensures in
     clauses t out _ _ _
     (order-cycle t (length out) _ z n (c .before .before .before .before .before .before .before .before .if2 .left)
@@ -155,11 +138,7 @@ order-spec =
     slice-aggregate-place-all
     place-all-requires
     returns
-    unit-count-requires
-    output-count-requires
-    add-count
-    input-count-requires
-    add-count-2
+    call-count-requires
     returns-2
     array-share-prefix-calls
     slice-aggregate-write-turned
