@@ -1,5 +1,6 @@
 -- One law for each answer of a judged run and of the loop that judges an order.
 use mathlib.Core.Path.{_≡_, refl, sym, ap, _∙_}
+use mathlib.Core.Logic.{_↔_}
 use mathlib.Core.Bool.{Bool, true, false, cond}
 use mathlib.Core.List.{List}
 use Prim.Native.Nat.{ℕ, suc, _+_, _^_, _≤_, _<_}
@@ -17,7 +18,10 @@ use Rattle.table.specs.Shape.{Shape, total}
 use Rattle.table.specs.Packed.{shapeOf}
 use Rattle.table.specs.Check.{refusal, checked}
 use Rattle.table.specs.Checked.{passed-sound, few-calls}
+use Rattle.table.specs.Sound.{Sound}
 use Rattle.judging.specs.Conditions.{refusalAt}
+use Rattle.judging.specs.Passes.{Passes}
+use Rattle.judging.specs.Demand.{passed-exactly}
 use Rattle.judging.specs.Verdict.{answer, atEnd, verdictFrom, verdictOf}
 use Rattle.judging.specs.Met.{meets-iff, meets-call}
 use Rattle.judging.specs.Judged.{verdict-on, verdict-off, verdict-sound, verdict-unsound}
@@ -84,15 +88,14 @@ module _ (s : Shape) (l : List ℕ) where
 
 -- ---- the end of an order
 
-module _ (t : List ℕ) (k u y x : ℕ) (eu : u ≡ shapeOf t .units) (ey : y ≡ shapeOf t .outputs)
-    (ex : x ≡ shapeOf t .inputs) where
-  pub end-short : (k ≡ u + y + x → ⊥) → answer 18 k ≡ atEnd (shapeOf t) k
+module _ (t : List ℕ) (k n : ℕ) (e : n ≡ total (shapeOf t)) where
+  pub end-short : (k ≡ n → ⊥) → answer 18 k ≡ atEnd (shapeOf t) k
   unfolding atEnd
-  end-short h = rw (← eu, ← ey, ← ex, ne-eqb k (u + y + x) h)
+  end-short h = rw (← e, ne-eqb k n h)
 
-  pub end-passed : k ≡ u + y + x → answer 0 k ≡ atEnd (shapeOf t) k
+  pub end-passed : k ≡ n → answer 0 k ≡ atEnd (shapeOf t) k
   unfolding atEnd
-  end-passed h = rw (← eu, ← ey, ← ex, eq-eqb k (u + y + x) h)
+  end-passed h = rw (← e, eq-eqb k n h)
 
 -- ---- the verdict
 
@@ -104,3 +107,8 @@ module _ (t l : List ℕ) (a : Answer) (e : a ≡ checked t) where
 
   pub verdict-judged : a .number ≡ 0 → (b : Answer) → b ≡ verdictFrom (shapeOf t) none l 0 → b ≡ verdictOf t l
   verdict-judged h b q = q ∙ sym (verdict-sound t l (sym (checked-number t a e) ∙ h))
+
+-- all that `verdict` promises
+pub clauses : (t l : List ℕ) (r : Answer) → r ≡ verdictOf t l
+    → (r ≡ verdictOf t l) × ((r .number ≡ 0) ↔ (Sound t × Passes (shapeOf t) none l))
+clauses t l r e = (e, passed-exactly t l r e)

@@ -1,7 +1,10 @@
 // The judge: a run that takes one call at a time, and the verdict on an order.
 ghost use mathlib.Core.Path.{_≡_};
+ghost use mathlib.Core.Logic.{_↔_};
 ghost use Rattle.table.specs.Packed.{shapeOf};
 ghost use Rattle.table.specs.Check.{refusal};
+ghost use Rattle.table.specs.Sound.{Sound};
+ghost use Rattle.judging.specs.Passes.{Passes};
 ghost use Rattle.judging.specs.Verdict.{atEnd, verdictFrom, verdictOf};
 ghost use Rattle.search.specs.Sets.{none};
 ghost use Rattle.judge.specs.Taken.{fresh, taken};
@@ -103,6 +106,8 @@ fn ended(table: &[u8], taken: usize) -> Answer
 // The verdict on an order: the table first, then each call; passing answers 0 with N.
 pub fn verdict(table: &[u8], order: &[u8]) -> Answer
     ensures { λ r. ⌜ r ≡ verdictOf (now (table .entry)) (now (order .entry)) ⌝ }
+    ensures { λ r. ⌜ (r .number ≡ 0)
+        ↔ (Sound (now (table .entry)) × Passes (shapeOf (now (table .entry))) none (now (order .entry))) ⌝ }
 {
     let checked = check(table);
     let number = checked.number;

@@ -11,7 +11,8 @@ use Rattle.table.specs.Shape.{total}
 use Rattle.table.specs.Packed.{shapeOf}
 use Rattle.table.specs.Check.{refusal}
 use Rattle.table.specs.Sound.{Sound}
-use Rattle.table.specs.Checked.{passed-sound, few-calls}
+use Rattle.table.specs.declared.Answer.{Answer}
+use Rattle.table.specs.Checked.{passed-sound, sound-passed, few-calls}
 use Rattle.calls.specs.Precedence.{precedes}
 use Rattle.orders.specs.Keeps.{Keeps}
 use Rattle.orders.specs.Sort.{placed}
@@ -30,6 +31,14 @@ module _ (t : List ℕ) where
   passed-keeps l = (
     (λ e. let (z, p) = passed-iff t l .0 e in (z, passes-iff (shapeOf t) (passed-sound t z .wired) l .0 p)),
     (λ (z, k). passed-iff t l .1 (z, passes-iff (shapeOf t) (passed-sound t z .wired) l .1 k)),
+  )
+
+  -- the same of an answer: "passed exactly when each call's conditions hold at its place and nothing is missing"
+  pub passed-exactly : (l : List ℕ) (r : Answer) → r ≡ verdictOf t l
+      → (r .number ≡ 0) ↔ (Sound t × Passes (shapeOf t) none l)
+  passed-exactly l r e = (
+    (λ z. let (c, p) = passed-iff t l .0 (rw e at z) in (passed-sound t c, p)),
+    (λ (s, p). rw e (passed-iff t l .1 (sound-passed t s, p))),
   )
 
   -- where the order's procedure places all N calls, the verdict on what it writes is a pass

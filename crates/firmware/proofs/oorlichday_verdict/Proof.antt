@@ -9,10 +9,10 @@ verdict-requires : tie.Need-verdict-requires
 verdict-requires c κs = search needs
 
 code-requires : tie.Need-code-requires
-code-requires c κs = rw (c .verdict .ensures) (verdict-most _ _)
+code-requires c κs = rw (c .verdict .ensures .0) (verdict-most _ _)
 
 returns : tie.Need-returns
-returns c = c .code .ensures ∙ ap coded (c .before .verdict .ensures)
+returns c = c .code .ensures ∙ ap coded (c .before .verdict .ensures .0)
 
 pub oorlichday-verdict-spec : {M : Type 1} → statement M
 oorlichday-verdict-spec = tie.close (tie.spec verdict-requires code-requires returns)
