@@ -21,9 +21,7 @@ use Rattle.calls.specs.Precedence.{
   step-set,
   feedsTo,
   hasKind,
-  stepBefore,
-  getBefore,
-  setBefore,
+  byKind,
   before,
   precedes,
 }
@@ -65,28 +63,28 @@ module _ (s : Shape) where
 
 module _ (s : Shape) (ok : Wired s) where
   pub step-get-holds : (y : ℕ) → y < s .outputs → T (precedes s (s .outputOwner y) (getNo s y))
-  unfolding precedes before stepBefore
+  unfolding precedes before byKind
   step-get-holds y h =
       rw (is-step s (s .outputOwner y) (ok .output-owned y h), is-get s y h) (eqb-refl (s .outputOwner y))
 
   pub get-set-holds : (x : ℕ) → x < s .inputs → T (precedes s (getNo s (s .source x)) (setNo s x))
-  unfolding precedes before getBefore
+  unfolding precedes before byKind
   get-set-holds x h =
       rw (is-get s (s .source x) (ok .sourced x h), is-set s x h) (eqb-refl (s .source x))
 
   pub set-get-holds : (x y : ℕ) → x < s .inputs → y < s .outputs → T (feedsTo s x y)
       → T (precedes s (setNo s x) (getNo s y))
-  unfolding precedes before setBefore
+  unfolding precedes before byKind
   set-get-holds x y h g t = rw (is-set s x h, is-get s y g) t
 
   pub set-step-holds : (x : ℕ) → x < s .inputs → s .kind x ≡ 1 → T (precedes s (setNo s x) (s .inputOwner x))
-  unfolding precedes before setBefore
+  unfolding precedes before byKind
   set-step-holds x h e =
       rw (is-set s x h, is-step s (s .inputOwner x) (ok .input-owned x h))
       (found-kind s 1 x (s .inputOwner x) e refl)
 
   pub step-set-holds : (x : ℕ) → x < s .inputs → s .kind x ≡ 0 → T (precedes s (s .inputOwner x) (setNo s x))
-  unfolding precedes before stepBefore
+  unfolding precedes before byKind
   step-set-holds x h e =
       rw (is-step s (s .inputOwner x) (ok .input-owned x h), is-set s x h)
       (found-kind s 0 x (s .inputOwner x) e refl)
@@ -97,7 +95,7 @@ module _ (s : Shape) where
   -- of a step: the sets of its unit's reactive inputs
   pub before-step : (u a : ℕ) → u < s .units → a < total s → T (precedes s a u)
       → (x : ℕ) × (x < s .inputs) × (a ≡ setNo s x) × (s .kind x ≡ 1) × (s .inputOwner x ≡ u)
-  unfolding precedes before stepBefore getBefore setBefore
+  unfolding precedes before byKind
   before-step u a hu ha t = go (view s a ha) (rw (is-step s u hu) at t)
     where
       go : View s a → T (before s (callOf s a) (Step u))
@@ -110,7 +108,7 @@ module _ (s : Shape) where
   -- of a get: its unit's step, and the sets of the inputs that feed it
   pub before-get : (y a : ℕ) → y < s .outputs → a < total s → T (precedes s a (getNo s y))
       → (a ≡ s .outputOwner y) ⊎ ((x : ℕ) × (x < s .inputs) × (a ≡ setNo s x) × T (feedsTo s x y))
-  unfolding precedes before stepBefore getBefore setBefore
+  unfolding precedes before byKind
   before-get y a hy ha t = go (view s a ha) (rw (is-get s y hy) at t)
     where
       go : View s a → T (before s (callOf s a) (Get y))
@@ -122,7 +120,7 @@ module _ (s : Shape) where
   -- of a set: its source's get, and the step of its unit where it is delayed
   pub before-set : (x a : ℕ) → x < s .inputs → a < total s → T (precedes s a (setNo s x))
       → (a ≡ getNo s (s .source x)) ⊎ ((s .kind x ≡ 0) × (a ≡ s .inputOwner x))
-  unfolding precedes before stepBefore getBefore setBefore
+  unfolding precedes before byKind
   before-set x a hx ha t = go (view s a ha) (rw (is-set s x hx) at t)
     where
       go : View s a → T (before s (callOf s a) (Set x))
@@ -135,7 +133,7 @@ module _ (s : Shape) where
 
   -- what is no call comes before nothing, and nothing before it
   pub calls-only : (a b : ℕ) → T (precedes s a b) → (a < total s) × (b < total s)
-  unfolding precedes before stepBefore getBefore setBefore
+  unfolding precedes before byKind
   calls-only a b t = (first (decLt a (total s)), second (decLt b (total s)))
     where
       first : Dec (a < total s) → a < total s
@@ -188,7 +186,7 @@ module _ (s : Shape) (ok : Wired s) where
 
 -- no call comes before itself
 pub not-self : (s : Shape) (c : ℕ) → T (not (precedes s c c))
-unfolding precedes before stepBefore getBefore setBefore
+unfolding precedes before byKind
 not-self s c = go (callOf s c)
   where
     go : (k : Call) → T (not (before s k k))

@@ -3,6 +3,7 @@ use mathlib.Core.Path.{_≡_}
 use mathlib.Core.Bool.{Bool, true, false, _&&_}
 use Prim.Native.Nat.{ℕ, _<_}
 use lib.Dec.{eqb}
+use Rattle.search.specs.Sets.{none}
 use Rattle.search.specs.Every.{some}
 use Rattle.table.specs.Shape.{Shape}
 use Rattle.calls.specs.declared.Call.{Call}
@@ -16,14 +17,11 @@ pub data Precedes (s : Shape) (a b : ℕ) : Type 0 where
   -- get of an output comes before set of each input joined to it
   get-set : (x : ℕ) → x < s .inputs → a ≡ getNo s (s .source x) → b ≡ setNo s x → Precedes s a b
   -- set of an input comes before get of each output that it feeds
-  set-get : (k : ℕ) → k < s .feeds → a ≡ setNo s (s .feedInput k) → b ≡ getNo s (s .feedOutput k)
-      → Precedes s a b
+  set-get : (k : ℕ) → k < s .feeds → a ≡ setNo s (s .feedInput k) → b ≡ getNo s (s .feedOutput k) → Precedes s a b
   -- set of a reactive input comes before the step of its unit
-  set-step : (x : ℕ) → x < s .inputs → s .kind x ≡ 1 → a ≡ setNo s x → b ≡ stepNo (s .inputOwner x)
-      → Precedes s a b
+  set-step : (x : ℕ) → x < s .inputs → s .kind x ≡ 1 → a ≡ setNo s x → b ≡ stepNo (s .inputOwner x) → Precedes s a b
   -- step of a unit comes before set of each of its delayed inputs
-  step-set : (x : ℕ) → x < s .inputs → s .kind x ≡ 0 → a ≡ stepNo (s .inputOwner x) → b ≡ setNo s x
-      → Precedes s a b
+  step-set : (x : ℕ) → x < s .inputs → s .kind x ≡ 0 → a ≡ stepNo (s .inputOwner x) → b ≡ setNo s x → Precedes s a b
 
 -- input x feeds output y
 unfoldable pub feedsTo : Shape → ℕ → ℕ → Bool
@@ -33,29 +31,19 @@ feedsTo s x y = some (λ k. eqb (s .feedInput k) x && eqb (s .feedOutput k) y) (
 unfoldable pub hasKind : Shape → ℕ → ℕ → ℕ → Bool
 hasKind s kind x u = eqb (s .kind x) kind && eqb (s .inputOwner x) u
 
-unfoldable pub stepBefore : Shape → ℕ → Call → Bool
-stepBefore s u (Step v) = false
-stepBefore s u (Get y) = eqb (s .outputOwner y) u
-stepBefore s u (Set x) = hasKind s 0 x u
-stepBefore s u NoCall = false
+-- a test of a call by its kind
+unfoldable pub byKind : (ℕ → Bool) → (ℕ → Bool) → (ℕ → Bool) → Call → Bool
+byKind step get set (Step u) = step u
+byKind step get set (Get y) = get y
+byKind step get set (Set x) = set x
+byKind step get set NoCall = false
 
-unfoldable pub getBefore : Shape → ℕ → Call → Bool
-getBefore s y (Step u) = false
-getBefore s y (Get z) = false
-getBefore s y (Set x) = eqb (s .source x) y
-getBefore s y NoCall = false
-
-unfoldable pub setBefore : Shape → ℕ → Call → Bool
-setBefore s x (Step u) = hasKind s 1 x u
-setBefore s x (Get y) = feedsTo s x y
-setBefore s x (Set z) = false
-setBefore s x NoCall = false
-
+-- the steps, gets and sets that each call comes before
 unfoldable pub before : Shape → Call → Call → Bool
-before s (Step u) b = stepBefore s u b
-before s (Get y) b = getBefore s y b
-before s (Set x) b = setBefore s x b
-before s NoCall b = false
+before s (Step u) = byKind none (λ y. eqb (s .outputOwner y) u) (λ x. hasKind s 0 x u)
+before s (Get y) = byKind none none (λ x. eqb (s .source x) y)
+before s (Set x) = byKind (λ u. hasKind s 1 x u) (λ y. feedsTo s x y) none
+before s NoCall = λ b. false
 
 -- the test of two call numbers
 unfoldable pub precedes : Shape → ℕ → ℕ → Bool

@@ -4,12 +4,11 @@ ghost use mathlib.Core.Bool.{_&&_};
 ghost use Prim.Native.Nat.{_<_};
 ghost use lib.Dec.{eqb};
 ghost use Rattle.table.specs.Packed.{pairInput, pairOutput, shapeOf};
+ghost use Rattle.calls.specs.declared.Call.the-variants.{Step, Get, Set};
 ghost use Rattle.calls.specs.Precedence.{
   hasKind,
   feedsTo,
-  stepBefore,
-  getBefore,
-  setBefore,
+  before,
   precedes as precedes-test,
 };
 use crate::Call;
@@ -61,7 +60,7 @@ fn feeds_to(table: &[u8], x: usize, y: usize) -> bool
 
 // Does the step of unit u come before this call?
 fn step_before(table: &[u8], u: usize, call: Call) -> bool
-    ensures { λ r. ⌜ r ≡ stepBefore (shapeOf (now (table .entry))) u call ⌝ }
+    ensures { λ r. ⌜ r ≡ before (shapeOf (now (table .entry))) (Step u) call ⌝ }
 {
     match call {
         Call::Step(_) => false,
@@ -73,7 +72,7 @@ fn step_before(table: &[u8], u: usize, call: Call) -> bool
 
 // Does the get of output y come before this call?
 fn get_before(table: &[u8], y: usize, call: Call) -> bool
-    ensures { λ r. ⌜ r ≡ getBefore (shapeOf (now (table .entry))) y call ⌝ }
+    ensures { λ r. ⌜ r ≡ before (shapeOf (now (table .entry))) (Get y) call ⌝ }
 {
     match call {
         Call::Step(_) => false,
@@ -85,7 +84,7 @@ fn get_before(table: &[u8], y: usize, call: Call) -> bool
 
 // Does the set of input x come before this call?
 fn set_before(table: &[u8], x: usize, call: Call) -> bool
-    ensures { λ r. ⌜ r ≡ setBefore (shapeOf (now (table .entry))) x call ⌝ }
+    ensures { λ r. ⌜ r ≡ before (shapeOf (now (table .entry))) (Set x) call ⌝ }
 {
     match call {
         Call::Step(u) => has_kind(table, 1, x, u),

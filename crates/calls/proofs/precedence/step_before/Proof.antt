@@ -3,7 +3,7 @@ use Rattle.calls.proofs.precedence.step_before.Statement.{statement}
 use Rattle.calls.proofs.precedence.step_before.Tie as tie
 use mathlib.Core.Path.{ap, _∙_}
 use lib.Dec.{eqb}
-use Rattle.calls.specs.Precedence.{stepBefore}
+use Rattle.calls.specs.Precedence.{byKind, before}
 use Rattle.calls.proofs.Laws.{byte-of}
 
 enum-told : tie.Need-enum-told
@@ -28,19 +28,19 @@ enum-told-2 : tie.Need-enum-told-2
 enum-told-2 c = search needs
 
 returns : tie.Need-returns
-unfolding stepBefore
+unfolding byKind before
 returns c = rw (c .enum-told .given .1)
 
 returns-2 : tie.Need-returns-2
-unfolding stepBefore
+unfolding byKind before
 returns-2 c = rw (c .before .before .before .call .given .1) (ap (λ n. eqb n (c .before .before .before .before .before .before .args .u)) (byte-of (c .before .before .before .call .given .0 .0) (c .byte .ensures .0) (c .before .output-owners .ensures)))
 
 returns-3 : tie.Need-returns-3
-unfolding stepBefore
+unfolding byKind before
 returns-3 c = rw (c .before .before .call2 .given .1) (c .has-kind .ensures)
 
 returns-4 : tie.Need-returns-4
-unfolding stepBefore
+unfolding byKind before
 returns-4 c = rw (c .enum-told2 .given .1)
 
 pub step-before-spec : {M : Type 1} → statement M
