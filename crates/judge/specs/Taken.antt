@@ -23,4 +23,5 @@ settled run c n =
 
 -- an unsound table is refused first, by 1 to 7, then the call by 11 to 17
 unfoldable pub taken : List ℕ → Run → ℕ → Taken
-taken t run c = settled run c (cond (eqb (refusal t) 0) (refusalAt (shapeOf t) (marks (run .done)) c) (refusal t))
+taken t run c =
+    settled run c (cond (eqb (refusal t) 0) (refusalAt (shapeOf t) (marks (run .done)) c) (refusal t))

@@ -38,7 +38,8 @@ module _ (s : Shape) (ok : Wired s) where
   too-early : (done : ℕ → Bool) (x : ℕ) → x < s .inputs → s .kind x ≡ 0 → T (done (setNo s x))
       → Allows s done (callOf s (s .inputOwner x)) → ⊥
   too-early done x h k d al =
-      let q : Allows s done (Step (s .inputOwner x)) = (rw (is-step s (s .inputOwner x) (ok .input-owned x h)) at al) in
+      let q : Allows s done (Step (s .inputOwner x)) =
+      (rw (is-step s (s .inputOwner x) (ok .input-owned x h)) at al) in
       clash (done (setNo s x)) d (q .0 x h refl k)
 
   -- where a passed rest follows, a delayed input that is set has its unit stepped: its step is yet to come otherwise

@@ -132,7 +132,8 @@ module _ (s : Shape) (done : ℕ → Bool) where
 
   meets-refusal : (k : Call) (again : Bool) → again ≡ false → Allows s done k → refusalOf s done k again ≡ 0
   unfolding refusalOf unstepped ungot
-  meets-refusal (Step u) again a al = refuse-on _ _ _ a ∙ refuse-on _ _ _ (no-early u al) ∙ refuse-on _ _ _ (no-unset u al)
+  meets-refusal (Step u) again a al =
+      refuse-on _ _ _ a ∙ refuse-on _ _ _ (no-early u al) ∙ refuse-on _ _ _ (no-unset u al)
   meets-refusal (Get y) again a al =
       refuse-on _ _ _ a ∙ refuse-on _ _ _ (ap not (is-true (done (s .outputOwner y)) (al .0))) ∙ refuse-on _ _ _ (no-unfed y al)
   meets-refusal (Set x) again a al =

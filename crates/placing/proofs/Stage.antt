@@ -131,7 +131,8 @@ module _ (t : List ℕ) (ok : Sound t) where
   unfolding placedOf placed
   stage-starts calls counts w = record {
     most = omega arith;
-    front = let e : (callCount t) - 0 ≡ (callCount t) = omega arith in rw e (fronting-starts (placedOf t) calls);
+    front =
+        let e : (callCount t) - 0 ≡ (callCount t) = omega arith in rw e (fronting-starts (placedOf t) calls);
     waiting = w;
     known = λ c z. absurd z;
     closed = λ a c z. absurd z;
@@ -172,7 +173,9 @@ module _ (t : List ℕ) (ok : Sound t) where
     to-placed x z =
         none-into (shapeOf t) (only c) x
         (λ a p q.
-        let r : T (precedes (shapeOf t) c x) = subst (λ b. T (precedes (shapeOf t) b x)) (eqb→eq a c q) (precedes-iff (shapeOf t) (ok .wired) a x .0 p) in
+        let r : T (precedes (shapeOf t) c x) =
+        subst (λ b. T (precedes (shapeOf t) b x)) (eqb→eq a c q)
+        (precedes-iff (shapeOf t) (ok .wired) a x .0 p) in
         elim (add-cases c (among (take k calls)) x z) [
           | inl y ↦ clash (precedes (shapeOf t) c c) (subst (λ b. T (precedes (shapeOf t) c b)) y r) (not-self (shapeOf t) c)
           | inr y ↦ clash (among (take k calls) c) (g .closed c x y r) new
@@ -225,7 +228,10 @@ module _ (t : List ℕ) (ok : Sound t) where
         let m = placed-more calls k c fits in
         record {
           most = omega arith;
-          front = rw m (fronting-on (placedOf t) (sort (callCount t) (precedes (shapeOf t)) ((callCount t) - (k + 1)) (add c (among (take k calls))))
+          front =
+              rw m
+              (fronting-on (placedOf t)
+              (sort (callCount t) (precedes (shapeOf t)) ((callCount t) - (k + 1)) (add c (among (take k calls))))
               calls₀ calls k c fits (subst (λ r. Fronting (placedOf t) r calls₀ calls k) step (g .front)));
           waiting = record {
             long = l .long ∙ stage-long;

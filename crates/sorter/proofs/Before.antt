@@ -228,7 +228,9 @@ module _ (s : Shape) (y : ℕ) (marks : List ℕ) where
       x = s .feedInput k
 
       test : Bool
-      test = eqb (s .feedOutput k) y && (ltb (s .feedInput k) best && not (marked marks (setNo s (s .feedInput k))))
+      test =
+          eqb (s .feedOutput k) y &&
+          (ltb (s .feedInput k) best && not (marked marks (setNo s (s .feedInput k))))
 
   pub best-ends : (best : ℕ) → Best (s .feeds) best → best ≡ leastFrom (keepsGet s y marks) (s .inputs) 0
   unfolding keepsGet
@@ -272,7 +274,8 @@ module _ (pairs : List ℕ) (k y first : ℕ) (marks : List ℕ) (best : ℕ) wh
   pub feeding-higher : pairOutput pairs k ≡ y → best ≤ pairInput pairs k
       → best ≡ lowerFeeding pairs k y first marks best
   unfolding lowerFeeding
-  feeding-higher e h = rw (is-true (eqb (pairOutput pairs k) y) (eq-true _ _ e), lt-false (pairInput pairs k) best h)
+  feeding-higher e h =
+      rw (is-true (eqb (pairOutput pairs k) y) (eq-true _ _ e), lt-false (pairInput pairs k) best h)
 
   pub feeding-done : pairOutput pairs k ≡ y → (getD marks (first + pairInput pairs k) 0 ≡ 0 → ⊥)
       → best ≡ lowerFeeding pairs k y first marks best

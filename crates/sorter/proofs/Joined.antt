@@ -75,7 +75,10 @@ module _ (t : List ℕ) (room count : ℕ) (z : refusal t ≡ 0) (n : count ≡ 
   order-short h = ordering-short t room z (omega arith)
 
   pub order-all : count ≤ room → length (placedOf t) ≡ count → ordering t room ≡ outcome 0 count (placedOf t)
-  order-all h e = ordering-settled t room z (omega arith) ∙ settled-all t (e ∙ n) ∙ ap (λ k. outcome 0 k (placedOf t)) (sym n)
+  order-all h e =
+      ordering-settled t room z (omega arith)
+      ∙ settled-all t (e ∙ n)
+      ∙ ap (λ k. outcome 0 k (placedOf t)) (sym n)
 
   pub order-none : count ≤ room → (length (placedOf t) ≡ count → ⊥) → (k : ℕ) → k ≡ length (shownOf t) → k ≡ 0
       → ordering t room ≡ outcome 10 0 (shownOf t)

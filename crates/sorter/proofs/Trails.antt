@@ -89,7 +89,8 @@ module _ (t : List ℕ) (done : ℕ → Bool) where
 
     pub trail-room : call < callCount t → getD seen call 0 ≡ 0 → 0 < at
     trail-room h z =
-        let new : T (not (among (drop at path) call)) = subst (λ q. T (not (q call))) (g .shown) (unmarked seen call z) in
+        let new : T (not (among (drop at path) call)) =
+        subst (λ q. T (not (q call))) (g .shown) (unmarked seen call z) in
         omega (
           arith,
           count-add (among (drop at path)) call (callCount t) h new,
@@ -101,7 +102,8 @@ module _ (t : List ℕ) (done : ℕ → Bool) where
         → next ≡ lowestBefore (callCount t) (precedes (shapeOf t)) done call
         → Trail (set path (at - 1) call) (set seen call 1) (at - 1) next
     trail-on next h z e =
-        let new : T (not (among (drop at path) call)) = subst (λ q. T (not (q call))) (g .shown) (unmarked seen call z) in
+        let new : T (not (among (drop at path) call)) =
+        subst (λ q. T (not (q call))) (g .shown) (unmarked seen call z) in
         let room = trail-room h z in
         let back : suc (at - 1) ≡ at = omega arith in
         let fits : at - 1 < length path = omega (arith, g .long, g .place) in

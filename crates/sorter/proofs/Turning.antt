@@ -24,7 +24,8 @@ module _ (bytes : List ℕ) (n : ℕ) where
     pub below : (j : ℕ) → j < i → low ≤ getD bytes j 0
 
   pub low-starts : Low 0 n
-  low-starts = record { high = omega arith; one = λ h. absurd (omega arith); below = λ j h. absurd (omega arith) }
+  low-starts =
+      record { high = omega arith; one = λ h. absurd (omega arith); below = λ j h. absurd (omega arith) }
 
   pub low-lower : (i low : ℕ) → i < length bytes → getD bytes i 0 < low → Low i low → Low (i + 1) (getD bytes i 0)
   low-lower i low h l b = record {

@@ -70,7 +70,8 @@ module _ {Val : Type 0} (t : List ℕ) (m : Rules Val) where
   run-joined order p w n start x h =
       let s = shapeOf t in
       let later-x = run-later order p w n start (setNo s x) (omega arith) in
-      let later-y = run-later order p w n start (getNo s (s .source x)) (omega (arith, wired order p .sourced x h)) in
+      let later-y =
+      run-later order p w n start (getNo s (s .source x)) (omega (arith, wired order p .sourced x h)) in
       same-held (end w order (setNo s x)) (end w order (getNo s (s .source x)))
       (run-solves order p w .inputs x h) (later-x ∙ sym later-y)
 

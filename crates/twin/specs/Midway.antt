@@ -146,4 +146,5 @@ module _ {Val : Type 0} (s : Shape) (m : Rules Val) where
   next-self w c h = ap (λ f. f c) (acts-moves w c h) ∙ moved-self w c (gives w (callOf s c) (w c .value))
 
   pub next-other : (w : World Val) (c : ℕ) → c < total s → (a : ℕ) → a ≢ c → next w c a ≡ w a
-  next-other w c h a ne = ap (λ f. f a) (acts-moves w c h) ∙ moved-other w c (gives w (callOf s c) (w c .value)) a ne
+  next-other w c h a ne =
+      ap (λ f. f a) (acts-moves w c h) ∙ moved-other w c (gives w (callOf s c) (w c .value)) a ne

@@ -15,7 +15,10 @@ same-length : tie.Need-same-length
 same-length c = search needs
 
 returns : tie.Need-returns
-returns c = (c .code .ensures ∙ ap coded (c .before .before .before .order .ensures .0), c .before .before .before .order .ensures .1 .0)
+returns c = (
+  c .code .ensures ∙ ap coded (c .before .before .before .order .ensures .0),
+  c .before .before .before .order .ensures .1 .0,
+)
 
 pub oorlichday-order-spec : {M : Type 1} → statement M
 oorlichday-order-spec = tie.close (tie.spec order-requires code-requires same-length returns)

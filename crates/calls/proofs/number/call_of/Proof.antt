@@ -17,7 +17,10 @@ call-in-requires : tie.Need-call-in-requires
 call-in-requires c κs = search needs
 
 returns : tie.Need-returns
-returns c = c .call-in .ensures ∙ call-same _ (c .before .before .before .unit-count .ensures .0) (c .before .before .output-count .ensures .0) (c .before .input-count .ensures .0)
+returns c =
+    c .call-in .ensures
+    ∙ call-same _ (c .before .before .before .unit-count .ensures .0)
+    (c .before .before .output-count .ensures .0) (c .before .input-count .ensures .0)
 
 pub call-of-spec : {M : Type 1} → statement M
 call-of-spec =

@@ -26,7 +26,12 @@ is-feed-requires : tie.Need-is-feed-requires Inv-loop μ-loop
 is-feed-requires c κs = search needs
 
 returns : tie.Need-returns Inv-loop μ-loop
-returns c = fed _ _ _ _ _ (c .before .before .before .before .feed-count .ensures .0) (c .before .before .loop-test .taken) (says (feed-of _ _ _ _ (c .before .is-feed .ensures) (c .before .before .before .before .before .feed-pairs .ensures)) (c .if1 .taken))
+returns c =
+    fed _ _ _ _ _ (c .before .before .before .before .feed-count .ensures .0)
+    (c .before .before .loop-test .taken)
+    (says
+    (feed-of _ _ _ _ (c .before .is-feed .ensures)
+    (c .before .before .before .before .before .feed-pairs .ensures)) (c .if1 .taken))
 
 add-k : tie.Need-add-k Inv-loop μ-loop
 add-k c = search needs
@@ -35,10 +40,17 @@ loop-less : tie.Need-loop-less Inv-loop μ-loop
 loop-less c = search needs
 
 loop-again : tie.Need-loop-again Inv-loop μ-loop
-loop-again c = (search needs, below-more _ _ (c .before .before .before .loop .inv .1) (denies (feed-of _ _ _ _ (c .before .is-feed .ensures) (c .before .before .before .before .before .feed-pairs .ensures)) (c .if1 .left)))
+loop-again c = (
+  search needs,
+  below-more _ _ (c .before .before .before .loop .inv .1)
+      (denies
+      (feed-of _ _ _ _ (c .before .is-feed .ensures)
+      (c .before .before .before .before .before .feed-pairs .ensures)) (c .if1 .left)),
+)
 
 returns-2 : tie.Need-returns-2 Inv-loop μ-loop
-returns-2 c = unfed _ _ _ _ _ (c .before .before .feed-count .ensures .0) (c .loop-test .left) (c .before .loop .inv .1)
+returns-2 c =
+    unfed _ _ _ _ _ (c .before .before .feed-count .ensures .0) (c .loop-test .left) (c .before .loop .inv .1)
 
 pub feeds-to-spec : {M : Type 1} → statement M
 feeds-to-spec =

@@ -34,7 +34,11 @@ returns-2 c = rw (c .enum-told2 .given .1)
 
 returns-3 : tie.Need-returns-3
 unfolding byKind before
-returns-3 c = rw (c .before .before .before .call .given .1) (ap (λ n. eqb n (c .before .before .before .before .before .before .args .y)) (byte-of (c .before .before .before .call .given .0 .0) (c .byte .ensures .0) (c .before .input-sources .ensures)))
+returns-3 c =
+    rw (c .before .before .before .call .given .1)
+    (ap (λ n. eqb n (c .before .before .before .before .before .before .args .y))
+    (byte-of (c .before .before .before .call .given .0 .0) (c .byte .ensures .0)
+    (c .before .input-sources .ensures)))
 
 returns-4 : tie.Need-returns-4
 unfolding byKind before

@@ -12,7 +12,10 @@ byte-requires c κs = search needs
 
 returns : tie.Need-returns
 unfolding hasKind
-returns c = both-first _ _ _ _ (byte-of (c .before .before .before .before .args .x) (c .before .byte .ensures .0) (c .before .before .input-kinds .ensures)) (c .if1 .taken)
+returns c =
+    both-first _ _ _ _
+    (byte-of (c .before .before .before .before .args .x) (c .before .byte .ensures .0)
+    (c .before .before .input-kinds .ensures)) (c .if1 .taken)
 
 input-owners-requires : tie.Need-input-owners-requires
 input-owners-requires c κs = search needs
@@ -22,7 +25,13 @@ byte-requires-2 c κs = search needs
 
 returns-2 : tie.Need-returns-2
 unfolding hasKind
-returns-2 c = both-second _ _ _ _ _ _ (byte-of (c .before .before .before .before .before .before .args .x) (c .before .before .before .byte .ensures .0) (c .before .before .before .before .input-kinds .ensures)) (c .before .before .if1 .left) (byte-of (c .before .before .before .before .before .before .args .x) (c .byte2 .ensures .0) (c .before .input-owners .ensures))
+returns-2 c =
+    both-second _ _ _ _ _ _
+    (byte-of (c .before .before .before .before .before .before .args .x)
+    (c .before .before .before .byte .ensures .0) (c .before .before .before .before .input-kinds .ensures))
+    (c .before .before .if1 .left)
+    (byte-of (c .before .before .before .before .before .before .args .x) (c .byte2 .ensures .0)
+    (c .before .input-owners .ensures))
 
 pub has-kind-spec : {M : Type 1} → statement M
 has-kind-spec =

@@ -22,7 +22,8 @@ byte-requires-2 : tie.Need-byte-requires-2
 byte-requires-2 c κs = search needs
 
 returns-2 : tie.Need-returns-2
-returns-2 c = both-second _ _ _ _ _ _ (c .before .before .byte .ensures .0) (c .before .if1 .left) (c .byte2 .ensures .0)
+returns-2 c =
+    both-second _ _ _ _ _ _ (c .before .before .byte .ensures .0) (c .before .if1 .left) (c .byte2 .ensures .0)
 
 pub is-feed-spec : {M : Type 1} → statement M
 is-feed-spec =

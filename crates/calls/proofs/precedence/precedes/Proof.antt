@@ -34,19 +34,30 @@ enum-told c = search needs
 
 returns : tie.Need-returns
 unfolding before precedes
-returns c = c .step-before .ensures ∙ by-calls _ _ _ _ _ (c .before .before .before .before .call-of2 .ensures) (c .before .before .earlier .given .1) (c .before .before .before .before .before .call-of .ensures)
+returns c =
+    c .step-before .ensures
+    ∙ by-calls _ _ _ _ _ (c .before .before .before .before .call-of2 .ensures)
+    (c .before .before .earlier .given .1) (c .before .before .before .before .before .call-of .ensures)
 
 returns-2 : tie.Need-returns-2
 unfolding before precedes
-returns-2 c = c .get-before .ensures ∙ by-calls _ _ _ _ _ (c .before .before .before .before .call-of2 .ensures) (c .before .before .earlier2 .given .1) (c .before .before .before .before .before .call-of .ensures)
+returns-2 c =
+    c .get-before .ensures
+    ∙ by-calls _ _ _ _ _ (c .before .before .before .before .call-of2 .ensures)
+    (c .before .before .earlier2 .given .1) (c .before .before .before .before .before .call-of .ensures)
 
 returns-3 : tie.Need-returns-3
 unfolding before precedes
-returns-3 c = c .set-before .ensures ∙ by-calls _ _ _ _ _ (c .before .before .before .before .call-of2 .ensures) (c .before .before .earlier3 .given .1) (c .before .before .before .before .before .call-of .ensures)
+returns-3 c =
+    c .set-before .ensures
+    ∙ by-calls _ _ _ _ _ (c .before .before .before .before .call-of2 .ensures)
+    (c .before .before .earlier3 .given .1) (c .before .before .before .before .before .call-of .ensures)
 
 returns-4 : tie.Need-returns-4
 unfolding before precedes
-returns-4 c = by-calls _ _ _ _ _ (c .before .before .call-of2 .ensures) (c .enum-told .given .1) (c .before .before .before .call-of .ensures)
+returns-4 c =
+    by-calls _ _ _ _ _ (c .before .before .call-of2 .ensures) (c .enum-told .given .1)
+    (c .before .before .before .call-of .ensures)
 
 pub precedes-spec : {M : Type 1} → statement M
 precedes-spec =

@@ -33,7 +33,11 @@ returns c = rw (c .enum-told .given .1)
 
 returns-2 : tie.Need-returns-2
 unfolding byKind before
-returns-2 c = rw (c .before .before .before .call .given .1) (ap (λ n. eqb n (c .before .before .before .before .before .before .args .u)) (byte-of (c .before .before .before .call .given .0 .0) (c .byte .ensures .0) (c .before .output-owners .ensures)))
+returns-2 c =
+    rw (c .before .before .before .call .given .1)
+    (ap (λ n. eqb n (c .before .before .before .before .before .before .args .u))
+    (byte-of (c .before .before .before .call .given .0 .0) (c .byte .ensures .0)
+    (c .before .output-owners .ensures)))
 
 returns-3 : tie.Need-returns-3
 unfolding byKind before

@@ -20,7 +20,12 @@ marked-requires : tie.Need-marked-requires
 marked-requires c κs = search needs
 
 returns-2 : tie.Need-returns-2
-returns-2 c = get-15 _ _ _ (c .before .before .before .before .if1 .left) _ (sym (unstepped-is _ _ _ _ _ _ (c .before .before .byte .ensures .0) (c .before .before .before .output-owners .ensures) (c .before .marked .ensures)) ∙ c .if2 .taken)
+returns-2 c =
+    get-15 _ _ _ (c .before .before .before .before .if1 .left) _
+    (sym
+    (unstepped-is _ _ _ _ _ _ (c .before .before .byte .ensures .0)
+    (c .before .before .before .output-owners .ensures) (c .before .marked .ensures))
+    ∙ c .if2 .taken)
 
 unit-count-requires : tie.Need-unit-count-requires
 unit-count-requires c κs = search needs
@@ -35,19 +40,54 @@ feed-pairs-requires : tie.Need-feed-pairs-requires
 feed-pairs-requires c κs = search needs
 
 cast-some-lacking : tie.Need-cast-some-lacking
-cast-some-lacking c = omega (arith, output-small _ (c .before .before .before .before .before .before .before .before .before .pre .0) _ (c .before .before .before .before .before .before .before .before .before .pre .1))
+cast-some-lacking c =
+    omega (
+      arith,
+      output-small _ (c .before .before .before .before .before .before .before .before .before .pre .0) _
+          (c .before .before .before .before .before .before .before .before .before .pre .1),
+    )
 
 feed-count-requires : tie.Need-feed-count-requires
 feed-count-requires c κs = search needs
 
 some-lacking-requires : tie.Need-some-lacking-requires
-some-lacking-requires c κs = feeds-room _ (c .before .before .before .before .before .before .before .before .before .before .pre .0) _ _ (c .before .before .before .unit-count .ensures .0) (c .before .before .output-count .ensures .0) _ _ (c .before .feed-pairs .ensures) (c .feed-count .ensures .0)
+some-lacking-requires c κs =
+    feeds-room _ (c .before .before .before .before .before .before .before .before .before .before .pre .0) _ _
+    (c .before .before .before .unit-count .ensures .0) (c .before .before .output-count .ensures .0) _ _
+    (c .before .feed-pairs .ensures) (c .feed-count .ensures .0)
 
 returns-3 : tie.Need-returns-3
-returns-3 c = get-16 _ _ _ (c .before .before .before .before .before .before .before .before .before .before .if1 .left) _ (sym (unstepped-is _ _ _ _ _ _ (c .before .before .before .before .before .before .before .before .byte .ensures .0) (c .before .before .before .before .before .before .before .before .before .output-owners .ensures) (c .before .before .before .before .before .before .before .marked .ensures)) ∙ c .before .before .before .before .before .before .if2 .left) (sym (unfed-is _ _ _ _ (c .before .before .before .before .before .unit-count .ensures .0) (c .before .before .before .before .output-count .ensures .0) _ _ _ (c .before .before .before .feed-pairs .ensures) (c .before .before .feed-count .ensures .0)) ∙ sym (c .before .some-lacking .ensures) ∙ c .if3 .taken)
+returns-3 c =
+    get-16 _ _ _ (c .before .before .before .before .before .before .before .before .before .before .if1 .left)
+    _
+    (sym
+    (unstepped-is _ _ _ _ _ _
+    (c .before .before .before .before .before .before .before .before .byte .ensures .0)
+    (c .before .before .before .before .before .before .before .before .before .output-owners .ensures)
+    (c .before .before .before .before .before .before .before .marked .ensures))
+    ∙ c .before .before .before .before .before .before .if2 .left)
+    (sym
+    (unfed-is _ _ _ _ (c .before .before .before .before .before .unit-count .ensures .0)
+    (c .before .before .before .before .output-count .ensures .0) _ _ _
+    (c .before .before .before .feed-pairs .ensures) (c .before .before .feed-count .ensures .0))
+    ∙ sym (c .before .some-lacking .ensures)
+    ∙ c .if3 .taken)
 
 returns-4 : tie.Need-returns-4
-returns-4 c = get-0 _ _ _ (c .before .before .before .before .before .before .before .before .before .before .if1 .left) _ (sym (unstepped-is _ _ _ _ _ _ (c .before .before .before .before .before .before .before .before .byte .ensures .0) (c .before .before .before .before .before .before .before .before .before .output-owners .ensures) (c .before .before .before .before .before .before .before .marked .ensures)) ∙ c .before .before .before .before .before .before .if2 .left) (sym (unfed-is _ _ _ _ (c .before .before .before .before .before .unit-count .ensures .0) (c .before .before .before .before .output-count .ensures .0) _ _ _ (c .before .before .before .feed-pairs .ensures) (c .before .before .feed-count .ensures .0)) ∙ sym (c .before .some-lacking .ensures) ∙ c .if3 .left)
+returns-4 c =
+    get-0 _ _ _ (c .before .before .before .before .before .before .before .before .before .before .if1 .left) _
+    (sym
+    (unstepped-is _ _ _ _ _ _
+    (c .before .before .before .before .before .before .before .before .byte .ensures .0)
+    (c .before .before .before .before .before .before .before .before .before .output-owners .ensures)
+    (c .before .before .before .before .before .before .before .marked .ensures))
+    ∙ c .before .before .before .before .before .before .if2 .left)
+    (sym
+    (unfed-is _ _ _ _ (c .before .before .before .before .before .unit-count .ensures .0)
+    (c .before .before .before .before .output-count .ensures .0) _ _ _
+    (c .before .before .before .feed-pairs .ensures) (c .before .before .feed-count .ensures .0))
+    ∙ sym (c .before .some-lacking .ensures)
+    ∙ c .if3 .left)
 
 pub get-refusal-spec : {M : Type 1} → statement M
 get-refusal-spec =

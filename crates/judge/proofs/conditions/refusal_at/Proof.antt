@@ -23,13 +23,25 @@ enum-known-asked : tie.Need-enum-known-asked
 enum-known-asked c = search needs
 
 step-refusal-requires : tie.Need-step-refusal-requires
-step-refusal-requires c κs = (c .before .before .before .before .before .before .before .before .before .pre, at-step _ _ _ _ _ (c .before .before .before .before .before .before .unit-count .ensures .0) (c .before .before .before .before .before .output-count .ensures .0) (c .before .before .before .before .input-count .ensures .0) _ (c .before .before .before .call-in .ensures) _ (c .before .asked .given .1))
+step-refusal-requires c κs = (
+  c .before .before .before .before .before .before .before .before .before .pre,
+  at-step _ _ _ _ _ (c .before .before .before .before .before .before .unit-count .ensures .0)
+      (c .before .before .before .before .before .output-count .ensures .0)
+      (c .before .before .before .before .input-count .ensures .0) _
+      (c .before .before .before .call-in .ensures) _ (c .before .asked .given .1),
+)
 
 enum-known-asked-2 : tie.Need-enum-known-asked-2
 enum-known-asked-2 c = search needs
 
 get-refusal-requires : tie.Need-get-refusal-requires
-get-refusal-requires c κs = (c .before .before .before .before .before .before .before .before .before .pre, at-get _ _ _ _ _ (c .before .before .before .before .before .before .unit-count .ensures .0) (c .before .before .before .before .before .output-count .ensures .0) (c .before .before .before .before .input-count .ensures .0) _ (c .before .before .before .call-in .ensures) _ (c .before .asked2 .given .1))
+get-refusal-requires c κs = (
+  c .before .before .before .before .before .before .before .before .before .pre,
+  at-get _ _ _ _ _ (c .before .before .before .before .before .before .unit-count .ensures .0)
+      (c .before .before .before .before .before .output-count .ensures .0)
+      (c .before .before .before .before .input-count .ensures .0) _
+      (c .before .before .before .call-in .ensures) _ (c .before .asked2 .given .1),
+)
 
 enum-known-asked-3 : tie.Need-enum-known-asked-3
 enum-known-asked-3 c = search needs
@@ -41,16 +53,39 @@ enum-told : tie.Need-enum-told
 enum-told c = search needs
 
 returns : tie.Need-returns
-returns c = judged-as _ _ _ _ _ (c .before .before .before .before .before .before .before .unit-count .ensures .0) (c .before .before .before .before .before .before .output-count .ensures .0) (c .before .before .before .before .before .input-count .ensures .0) _ (c .before .before .before .before .call-in .ensures) _ _ (c .before .before .before .before .before .before .before .before .marked .ensures) _ (c .before .before .asked .given .1) _ (c .step-refusal .ensures)
+returns c =
+    judged-as _ _ _ _ _ (c .before .before .before .before .before .before .before .unit-count .ensures .0)
+    (c .before .before .before .before .before .before .output-count .ensures .0)
+    (c .before .before .before .before .before .input-count .ensures .0) _
+    (c .before .before .before .before .call-in .ensures) _ _
+    (c .before .before .before .before .before .before .before .before .marked .ensures) _
+    (c .before .before .asked .given .1) _ (c .step-refusal .ensures)
 
 returns-2 : tie.Need-returns-2
-returns-2 c = judged-as _ _ _ _ _ (c .before .before .before .before .before .before .before .unit-count .ensures .0) (c .before .before .before .before .before .before .output-count .ensures .0) (c .before .before .before .before .before .input-count .ensures .0) _ (c .before .before .before .before .call-in .ensures) _ _ (c .before .before .before .before .before .before .before .before .marked .ensures) _ (c .before .before .asked2 .given .1) _ (c .get-refusal .ensures)
+returns-2 c =
+    judged-as _ _ _ _ _ (c .before .before .before .before .before .before .before .unit-count .ensures .0)
+    (c .before .before .before .before .before .before .output-count .ensures .0)
+    (c .before .before .before .before .before .input-count .ensures .0) _
+    (c .before .before .before .before .call-in .ensures) _ _
+    (c .before .before .before .before .before .before .before .before .marked .ensures) _
+    (c .before .before .asked2 .given .1) _ (c .get-refusal .ensures)
 
 returns-3 : tie.Need-returns-3
-returns-3 c = judged-as _ _ _ _ _ (c .before .before .before .before .before .before .before .unit-count .ensures .0) (c .before .before .before .before .before .before .output-count .ensures .0) (c .before .before .before .before .before .input-count .ensures .0) _ (c .before .before .before .before .call-in .ensures) _ _ (c .before .before .before .before .before .before .before .before .marked .ensures) _ (c .before .before .asked3 .given .1) _ (c .set-refusal .ensures)
+returns-3 c =
+    judged-as _ _ _ _ _ (c .before .before .before .before .before .before .before .unit-count .ensures .0)
+    (c .before .before .before .before .before .before .output-count .ensures .0)
+    (c .before .before .before .before .before .input-count .ensures .0) _
+    (c .before .before .before .before .call-in .ensures) _ _
+    (c .before .before .before .before .before .before .before .before .marked .ensures) _
+    (c .before .before .asked3 .given .1) _ (c .set-refusal .ensures)
 
 returns-4 : tie.Need-returns-4
-returns-4 c = judged-as _ _ _ _ _ (c .before .before .before .before .before .unit-count .ensures .0) (c .before .before .before .before .output-count .ensures .0) (c .before .before .before .input-count .ensures .0) _ (c .before .before .call-in .ensures) _ _ (c .before .before .before .before .before .before .marked .ensures) _ (c .enum-told .given .1) _ (no-call _ _ _)
+returns-4 c =
+    judged-as _ _ _ _ _ (c .before .before .before .before .before .unit-count .ensures .0)
+    (c .before .before .before .before .output-count .ensures .0)
+    (c .before .before .before .input-count .ensures .0) _ (c .before .before .call-in .ensures) _ _
+    (c .before .before .before .before .before .before .marked .ensures) _ (c .enum-told .given .1) _
+    (no-call _ _ _)
 
 pub refusal-at-spec : {M : Type 1} → statement M
 refusal-at-spec =

@@ -25,10 +25,22 @@ marked-requires : tie.Need-marked-requires
 marked-requires c κs = search needs
 
 returns-2 : tie.Need-returns-2
-returns-2 c = set-17 _ _ _ (c .before .before .before .before .before .if1 .left) _ (sym (ungot-is _ _ _ _ _ _ (c .before .before .byte .ensures .0) (c .before .before .before .input-sources .ensures) _ (c .before .before .before .before .unit-count .ensures .0) (c .before .marked .ensures)) ∙ c .if2 .taken)
+returns-2 c =
+    set-17 _ _ _ (c .before .before .before .before .before .if1 .left) _
+    (sym
+    (ungot-is _ _ _ _ _ _ (c .before .before .byte .ensures .0)
+    (c .before .before .before .input-sources .ensures) _
+    (c .before .before .before .before .unit-count .ensures .0) (c .before .marked .ensures))
+    ∙ c .if2 .taken)
 
 returns-3 : tie.Need-returns-3
-returns-3 c = set-0 _ _ _ (c .before .before .before .before .before .if1 .left) _ (sym (ungot-is _ _ _ _ _ _ (c .before .before .byte .ensures .0) (c .before .before .before .input-sources .ensures) _ (c .before .before .before .before .unit-count .ensures .0) (c .before .marked .ensures)) ∙ c .if2 .left)
+returns-3 c =
+    set-0 _ _ _ (c .before .before .before .before .before .if1 .left) _
+    (sym
+    (ungot-is _ _ _ _ _ _ (c .before .before .byte .ensures .0)
+    (c .before .before .before .input-sources .ensures) _
+    (c .before .before .before .before .unit-count .ensures .0) (c .before .marked .ensures))
+    ∙ c .if2 .left)
 
 pub set-refusal-spec : {M : Type 1} → statement M
 set-refusal-spec =

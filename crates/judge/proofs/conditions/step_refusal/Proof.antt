@@ -27,22 +27,69 @@ add-first : tie.Need-add-first
 add-first c = search needs
 
 cast-this : tie.Need-cast-this
-cast-this c = omega (arith, unit-small _ (c .before .before .before .before .before .before .pre .0) _ (c .before .before .before .before .before .before .pre .1))
+cast-this c =
+    omega (
+      arith,
+      unit-small _ (c .before .before .before .before .before .before .pre .0) _
+          (c .before .before .before .before .before .before .pre .1),
+    )
 
 some-amiss-requires : tie.Need-some-amiss-requires
-some-amiss-requires c κs = inputs-room _ (c .before .before .before .before .before .before .pre .0) _ _ (c .before .unit-count .ensures .0) (c .output-count .ensures .0) _ _ (c .before .before .before .input-owners .ensures) (c .before .before .input-kinds .ensures)
+some-amiss-requires c κs =
+    inputs-room _ (c .before .before .before .before .before .before .pre .0) _ _
+    (c .before .unit-count .ensures .0) (c .output-count .ensures .0) _ _
+    (c .before .before .before .input-owners .ensures) (c .before .before .input-kinds .ensures)
 
 returns-2 : tie.Need-returns-2
-returns-2 c = step-0 _ _ _ (c .before .before .before .before .before .before .if1 .left) _ (sym (either-is _ _ _ _ (c .before .before .before .unit-count .ensures .0) (c .before .before .output-count .ensures .0) (c .before .before .before .before .before .before .before .before .pre .0) _ _ (c .before .before .before .before .before .input-owners .ensures) (c .before .before .before .before .input-kinds .ensures) _) ∙ sym (c .before .some-amiss .ensures) ∙ not-true _ (c .if2 .taken))
+returns-2 c =
+    step-0 _ _ _ (c .before .before .before .before .before .before .if1 .left) _
+    (sym
+    (either-is _ _ _ _ (c .before .before .before .unit-count .ensures .0)
+    (c .before .before .output-count .ensures .0)
+    (c .before .before .before .before .before .before .before .before .pre .0) _ _
+    (c .before .before .before .before .before .input-owners .ensures)
+    (c .before .before .before .before .input-kinds .ensures) _)
+    ∙ sym (c .before .some-amiss .ensures)
+    ∙ not-true _ (c .if2 .taken))
 
 some-amiss-requires-2 : tie.Need-some-amiss-requires-2
-some-amiss-requires-2 c κs = inputs-room _ (c .before .before .before .before .before .before .before .before .pre .0) _ _ (c .before .before .before .unit-count .ensures .0) (c .before .before .output-count .ensures .0) _ _ (c .before .before .before .before .before .input-owners .ensures) (c .before .before .before .before .input-kinds .ensures)
+some-amiss-requires-2 c κs =
+    inputs-room _ (c .before .before .before .before .before .before .before .before .pre .0) _ _
+    (c .before .before .before .unit-count .ensures .0) (c .before .before .output-count .ensures .0) _ _
+    (c .before .before .before .before .before .input-owners .ensures)
+    (c .before .before .before .before .input-kinds .ensures)
 
 returns-3 : tie.Need-returns-3
-returns-3 c = step-13 _ _ _ (c .before .before .before .before .before .before .before .before .if1 .left) _ (sym (early-is _ _ _ _ (c .before .before .before .before .before .unit-count .ensures .0) (c .before .before .before .before .output-count .ensures .0) (c .before .before .before .before .before .before .before .before .before .before .pre .0) _ _ (c .before .before .before .before .before .before .before .input-owners .ensures) (c .before .before .before .before .before .before .input-kinds .ensures) _) ∙ sym (c .before .some-amiss2 .ensures) ∙ c .if3 .taken)
+returns-3 c =
+    step-13 _ _ _ (c .before .before .before .before .before .before .before .before .if1 .left) _
+    (sym
+    (early-is _ _ _ _ (c .before .before .before .before .before .unit-count .ensures .0)
+    (c .before .before .before .before .output-count .ensures .0)
+    (c .before .before .before .before .before .before .before .before .before .before .pre .0) _ _
+    (c .before .before .before .before .before .before .before .input-owners .ensures)
+    (c .before .before .before .before .before .before .input-kinds .ensures) _)
+    ∙ sym (c .before .some-amiss2 .ensures)
+    ∙ c .if3 .taken)
 
 returns-4 : tie.Need-returns-4
-returns-4 c = step-14 _ _ _ (c .before .before .before .before .before .before .before .before .if1 .left) _ (sym (either-is _ _ _ _ (c .before .before .before .before .before .unit-count .ensures .0) (c .before .before .before .before .output-count .ensures .0) (c .before .before .before .before .before .before .before .before .before .before .pre .0) _ _ (c .before .before .before .before .before .before .before .input-owners .ensures) (c .before .before .before .before .before .before .input-kinds .ensures) _) ∙ sym (c .before .before .before .some-amiss .ensures) ∙ not-false _ (c .before .before .if2 .left)) (sym (early-is _ _ _ _ (c .before .before .before .before .before .unit-count .ensures .0) (c .before .before .before .before .output-count .ensures .0) (c .before .before .before .before .before .before .before .before .before .before .pre .0) _ _ (c .before .before .before .before .before .before .before .input-owners .ensures) (c .before .before .before .before .before .before .input-kinds .ensures) _) ∙ sym (c .before .some-amiss2 .ensures) ∙ c .if3 .left)
+returns-4 c =
+    step-14 _ _ _ (c .before .before .before .before .before .before .before .before .if1 .left) _
+    (sym
+    (either-is _ _ _ _ (c .before .before .before .before .before .unit-count .ensures .0)
+    (c .before .before .before .before .output-count .ensures .0)
+    (c .before .before .before .before .before .before .before .before .before .before .pre .0) _ _
+    (c .before .before .before .before .before .before .before .input-owners .ensures)
+    (c .before .before .before .before .before .before .input-kinds .ensures) _)
+    ∙ sym (c .before .before .before .some-amiss .ensures)
+    ∙ not-false _ (c .before .before .if2 .left))
+    (sym
+    (early-is _ _ _ _ (c .before .before .before .before .before .unit-count .ensures .0)
+    (c .before .before .before .before .output-count .ensures .0)
+    (c .before .before .before .before .before .before .before .before .before .before .pre .0) _ _
+    (c .before .before .before .before .before .before .before .input-owners .ensures)
+    (c .before .before .before .before .before .before .input-kinds .ensures) _)
+    ∙ sym (c .before .some-amiss2 .ensures)
+    ∙ c .if3 .left)
 
 pub step-refusal-spec : {M : Type 1} → statement M
 step-refusal-spec =

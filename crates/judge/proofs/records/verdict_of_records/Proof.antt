@@ -95,7 +95,10 @@ abbrev slice : Ty
 slice = sliceTy (tyRef (named 1) imm (pointee (R .written)))
 
 abbrev stayed : Stays (f.ended .signature .params) (f.ended .kept)
-stayed = (stay-none-slice (0 ∷ []) tt (plain (λ _. u8)) kept, (stay-none-slice (1 ∷ []) tt (plain (λ _. R)) kept, tt))
+stayed = (
+  stay-none-slice (0 ∷ []) tt (plain (λ _. u8)) kept,
+  (stay-none-slice (1 ∷ []) tt (plain (λ _. R)) kept, tt),
+)
 
 -- the contracts that the walk cites
 module _ {M : Type 1} (𝓤 : URA M) (H : Heap 𝓤) (A : Atoms 𝓤) (mem : Memory → SProp 𝓤) (run : Routine → Fun 𝓤) where
@@ -143,7 +146,9 @@ module _ {M : Type 1} (𝓤 : URA M) (H : Heap 𝓤) (A : Atoms 𝓤) (W : Given
   up = upTo ts ys
 
   abbrev Post : Val → SProp 𝓤
-  Post = walkOf 𝓤 H A f.ended stayed (f.clauses 𝓤 H A mem run) .post (((κ, (κ′, tt)), (q, (q′, tt)), tt, (x₁, (x, tt)), at), tt)
+  Post =
+      walkOf 𝓤 H A f.ended stayed (f.clauses 𝓤 H A mem run) .post
+      (((κ, (κ′, tt)), (q, (q′, tt)), tt, (x₁, (x, tt)), at), tt)
 
   -- ---- what each callee is passed, asks and says
 
@@ -151,10 +156,13 @@ module _ {M : Type 1} (𝓤 : URA M) (H : Heap 𝓤) (A : Atoms 𝓤) (W : Given
   to-begun = (((κ, tt), (q, tt), tt, (x₁, tt), (v₁ ∷ [], tt)), tt)
 
   asked-begun : ent 𝓤 (onEntry 𝓤 H A begun.signature (κ, tt) (q, tt) (x₁, tt) (v₁ ∷ [], tt)) (Begun 𝓤 H A mem run .pre to-begun)
-  asked-begun = qed W ((‵ (flft κ q) ⊛ ‵ ftrue) ∷ ‵ (owns (ShrSlice (named 0) κ u8 ∷ []) (x₁, tt) (v₁ ∷ [], tt)) ∷ []) ∵ join ! $ frame ! $ done !
+  asked-begun =
+      qed W ((‵ (flft κ q) ⊛ ‵ ftrue) ∷ ‵ (owns (ShrSlice (named 0) κ u8 ∷ []) (x₁, tt) (v₁ ∷ [], tt)) ∷ []) ∵
+      join ! $ frame ! $ done !
 
   said-begun : (r : Judged) → ent 𝓤 (ensured 𝓤 H A begun.ended (begun.clauses 𝓤 H A mem run) (κ, tt) (x₁, tt) tt r) (fact 𝓤 (r ≡ begunOf ts))
-  said-begun r = exE 𝓤 _ (λ ws. snd∗ 𝓤 (sem 𝓤 H A (lasts begun.ended (κ, tt) (x₁, tt) ws)) (fact 𝓤 (r ≡ begunOf ts)))
+  said-begun r =
+      exE 𝓤 _ (λ ws. snd∗ 𝓤 (sem 𝓤 H A (lasts begun.ended (κ, tt) (x₁, tt) ws)) (fact 𝓤 (r ≡ begunOf ts)))
 
   abbrev next-vals : ℕ → Val → Vals next.signature (κ, tt)
   next-vals i u = (u ∷ [], (v₁ ∷ [], (mach i ∷ [], (vint w64 i ∷ [], tt))))
@@ -163,10 +171,18 @@ module _ {M : Type 1} (𝓤 : URA M) (H : Heap 𝓤) (A : Atoms 𝓤) (W : Given
   to-next i u = (((κ, tt), (q, tt), tt, (up i, (x₁, (el i, (i, tt)))), next-vals i u), tt)
 
   asked-next : (i : ℕ) (u : Val) → ent 𝓤 (onEntry 𝓤 H A next.signature (κ, tt) (q, tt) (up i, (x₁, (el i, (i, tt)))) (next-vals i u)) (Next 𝓤 H A mem run .pre (to-next i u))
-  asked-next i u = qed W ((‵ (flft κ q) ⊛ ‵ ftrue) ∷ ‵ (owns (J.the-row ∷ ShrSlice (named 0) κ u8 ∷ R ∷ usize ∷ []) (up i, (x₁, (el i, (i, tt)))) (next-vals i u)) ∷ []) ∵ says ! (up-sound ts ys i) $ join ! $ done !
+  asked-next i u =
+      qed W
+      ((‵ (flft κ q) ⊛ ‵ ftrue) ∷ ‵
+      (owns (J.the-row ∷ ShrSlice (named 0) κ u8 ∷ R ∷ usize ∷ []) (up i, (x₁, (el i, (i, tt)))) (next-vals i u))
+      ∷ []) ∵ says ! (up-sound ts ys i) $ join ! $ done !
 
   said-next : (i : ℕ) (r : Judged) → ent 𝓤 (ensured 𝓤 H A next.ended (next.clauses 𝓤 H A mem run) (κ, tt) (up i, (x₁, (el i, (i, tt)))) tt r) (fact 𝓤 (r ≡ judgedNext (shapeOf ts) (up i) (el i) i))
-  said-next i r = exE 𝓤 _ (λ ws. snd∗ 𝓤 (sem 𝓤 H A (lasts next.ended (κ, tt) (up i, (x₁, (el i, (i, tt)))) ws)) (fact 𝓤 (r ≡ judgedNext (shapeOf ts) (up i) (el i) i)))
+  said-next i r =
+      exE 𝓤 _
+      (λ ws.
+      snd∗ 𝓤 (sem 𝓤 H A (lasts next.ended (κ, tt) (up i, (x₁, (el i, (i, tt)))) ws))
+      (fact 𝓤 (r ≡ judgedNext (shapeOf ts) (up i) (el i) i)))
 
   abbrev conc-vals : ℕ → Val → Vals conc.signature (κ, tt)
   conc-vals i u = (u ∷ [], (v₁ ∷ [], (vint w64 i ∷ [], tt)))
@@ -175,10 +191,18 @@ module _ {M : Type 1} (𝓤 : URA M) (H : Heap 𝓤) (A : Atoms 𝓤) (W : Given
   to-conc i u = (((κ, tt), (q, tt), tt, (up i, (x₁, (i, tt))), conc-vals i u), tt)
 
   asked-conc : (i : ℕ) (u : Val) → ent 𝓤 (onEntry 𝓤 H A conc.signature (κ, tt) (q, tt) (up i, (x₁, (i, tt))) (conc-vals i u)) (Conc 𝓤 H A mem run .pre (to-conc i u))
-  asked-conc i u = qed W ((‵ (flft κ q) ⊛ ‵ ftrue) ∷ ‵ (owns (J.the-row ∷ ShrSlice (named 0) κ u8 ∷ usize ∷ []) (up i, (x₁, (i, tt))) (conc-vals i u)) ∷ []) ∵ join ! $ frame ! $ done !
+  asked-conc i u =
+      qed W
+      ((‵ (flft κ q) ⊛ ‵ ftrue) ∷ ‵
+      (owns (J.the-row ∷ ShrSlice (named 0) κ u8 ∷ usize ∷ []) (up i, (x₁, (i, tt))) (conc-vals i u)) ∷ []) ∵
+      join ! $ frame ! $ done !
 
   said-conc : (i : ℕ) (r : Answer) → ent 𝓤 (ensured 𝓤 H A conc.ended (conc.clauses 𝓤 H A mem run) (κ, tt) (up i, (x₁, (i, tt))) tt r) (fact 𝓤 (r ≡ concluded (shapeOf ts) (up i) i))
-  said-conc i r = exE 𝓤 _ (λ ws. snd∗ 𝓤 (sem 𝓤 H A (lasts conc.ended (κ, tt) (up i, (x₁, (i, tt))) ws)) (fact 𝓤 (r ≡ concluded (shapeOf ts) (up i) i)))
+  said-conc i r =
+      exE 𝓤 _
+      (λ ws.
+      snd∗ 𝓤 (sem 𝓤 H A (lasts conc.ended (κ, tt) (up i, (x₁, (i, tt))) ws))
+      (fact 𝓤 (r ≡ concluded (shapeOf ts) (up i) i)))
 
   exits : (r : Answer) (u : Val) → r ≡ verdictOf ts (allNumbered (shapeOf ts) ys) → ent 𝓤 (⋆ 𝓤 H A (‵ (S.the-row .own r (u ∷ [])) ∷ (‵ (flft κ q) ⊛ ‵ ftrue) ∷ ‵ OwnT ∷ ‵ (flft κ′ q′) ∷ ‵ Own ∷ [])) (Post u)
   exits r u e =
@@ -206,18 +230,26 @@ module _ {M : Type 1} (𝓤 : URA M) (H : Heap 𝓤) (A : Atoms 𝓤) (W : Given
     Λ = 𝓣 .Λ
 
     abbrev En : Env 𝓤 H
-    En = (S′.mir, l₀) ∷ (bytes, l₁) ∷ (slice, l₂) ∷ (J′.mir, l₃) ∷ (word, l₄) ∷ (word, l₅) ∷ (tyBool, l₆) ∷ (tyPtr, l₇) ∷ (T′.mir, l₈) ∷ []
+    En =
+        (S′.mir, l₀) ∷ (bytes, l₁) ∷ (slice, l₂) ∷ (J′.mir, l₃) ∷ (word, l₄) ∷ (word, l₅) ∷ (tyBool, l₆) ∷
+        (tyPtr, l₇) ∷ (T′.mir, l₈) ∷ []
 
     abbrev dying : List (Item 𝓤)
-    dying = ‵ (fdies S′.mir l₀) ∷ ‵ (fdies bytes l₁) ∷ ‵ (fdies slice l₂) ∷ ‵ (fdies J′.mir l₃) ∷ ‵ (fdies word l₄) ∷ ‵ (fdies word l₅) ∷ ‵ (fdies tyBool l₆) ∷ ‵ (fdies tyPtr l₇) ∷ ‵ (fdies T′.mir l₈) ∷ []
+    dying =
+        ‵ (fdies S′.mir l₀) ∷ ‵ (fdies bytes l₁) ∷ ‵ (fdies slice l₂) ∷ ‵ (fdies J′.mir l₃) ∷ ‵ (fdies word l₄)
+        ∷ ‵ (fdies word l₅) ∷ ‵ (fdies tyBool l₆) ∷ ‵ (fdies tyPtr l₇) ∷ ‵ (fdies T′.mir l₈) ∷ []
 
     -- [place; judged; _5; _6; _7; _8; table; records; _0; the two tokens; what table and records own; what judged owns; ..]
     abbrev At : State → List (Item 𝓤)
-    At s = ‵ (fat fullShare word l₄ 0 (vint w64 (s .0))) ∷ ‵ (fat fullShare J′.mir l₃ 0 (s .2)) ∷ ‵ (froom word l₅ 0) ∷ ‵ (froom tyBool l₆ 0) ∷ ‵ (froom tyPtr l₇ 0) ∷ ‵ (froom T′.mir l₈ 0)
+    At s =
+        ‵ (fat fullShare word l₄ 0 (vint w64 (s .0))) ∷ ‵ (fat fullShare J′.mir l₃ 0 (s .2)) ∷ ‵
+        (froom word l₅ 0) ∷ ‵ (froom tyBool l₆ 0) ∷ ‵ (froom tyPtr l₇ 0) ∷ ‵ (froom T′.mir l₈ 0)
         ∷ ‵ (fat fullShare bytes l₁ 0 v₁) ∷ ‵ (fat fullShare slice l₂ 0 v) ∷ ‵ (froom S′.mir l₀ 0) ∷ ‵ (flft κ q) ∷ ‵ (flft κ′ q′) ∷ ‵ OwnT ∷ ‵ Own ∷ ‵ (J.the-row .own (up (s .0)) (s .2 ∷ [])) ∷ dying
 
     abbrev Turned : State → Out → SProp 𝓤
-    Turned s = afterTurn 𝓤 H (Below 𝓤 H A Nearer At s) (afterBlock 𝓤 H (afterSeq 𝓤 H (Wp 𝓤 H C Λ En pieces.t-4 (atReturn 𝓤 H En Post)) (atReturn 𝓤 H En Post)))
+    Turned s =
+        afterTurn 𝓤 H (Below 𝓤 H A Nearer At s)
+        (afterBlock 𝓤 H (afterSeq 𝓤 H (Wp 𝓤 H C Λ En pieces.t-4 (atReturn 𝓤 H En Post)) (atReturn 𝓤 H En Post)))
 
     turn-in : (s : State) → s .0 < n → Sq W (At s) (runs C Λ En pieces.turn-1 (anyQ (Turned s)))
     unfolding afterTurn
@@ -331,11 +363,19 @@ module _ {M : Type 1} (𝓤 : URA M) (H : Heap 𝓤) (A : Atoms 𝓤) (W : Given
 
 module _ {M : Type 1} (𝓤 : URA M) (H : Heap 𝓤) (A : Atoms 𝓤) (W : Given 𝓤 H A) (mem : Memory → SProp 𝓤) (run : Routine → Fun 𝓤) (𝓣 : Tables 𝓤 H) (known-begun : Triple 𝓤 (𝓣 .C #begun) (Begun 𝓤 H A mem run)) (known-next : Triple 𝓤 (𝓣 .C #next) (Next 𝓤 H A mem run)) (known-conc : Triple 𝓤 (𝓣 .C #conc) (Conc 𝓤 H A mem run)) where
   walks : Walks 𝓤 H A f.ended stayed (WpFn 𝓤 H (𝓣 .C) (𝓣 .Λ) code.function) (f.clauses 𝓤 H A mem run)
-  walks = walked 𝓤 H A f.ended stayed (f.clauses 𝓤 H A mem run) (WpFn 𝓤 H (𝓣 .C) (𝓣 .Λ) code.function) (λ κs. (slice-vals, (slice-vals, tt))) (λ κs. (shr-slice-tells (named 0) (κs .0) u8, (shr-slice-tells (named 1) (κs .1 .0) R, tt)))
+  walks =
+      walked 𝓤 H A f.ended stayed (f.clauses 𝓤 H A mem run) (WpFn 𝓤 H (𝓣 .C) (𝓣 .Λ) code.function)
+      (λ κs. (slice-vals, (slice-vals, tt)))
+      (λ κs. (shr-slice-tells (named 0) (κs .0) u8, (shr-slice-tells (named 1) (κs .1 .0) R, tt)))
       (λ κs qs bounds a g are. via 𝓤 _ (fst∗ 𝓤 _ (emp 𝓤)) (walk 𝓤 H A W mem run (κs .0) (κs .1 .0) (qs .0) (qs .1 .0) (a .0 .ptr .0) (a .0 .ptr .1) (a .0 .name) (a .0 .now) (a .1 .0 .ptr .0) (a .1 .0 .ptr .1) (a .1 .0 .name) (a .1 .0 .now) 𝓣 known-begun known-next known-conc (are .0 .0 .1) (are .1 .0 .0 .1)))
 
   meets : Meets 𝓤 H A f.signature (WpFn 𝓤 H (𝓣 .C) (𝓣 .Λ) code.function) (f.spec 𝓤 H A mem run)
-  meets = walk-meets 𝓤 H A f.ended stayed W (goes-none-slice 𝓤 H A W 2 (0 ∷ []) tt (plain (λ _. u8)) kept, (goes-none-slice 𝓤 H A W 2 (1 ∷ []) tt (plain (λ _. R)) kept, tt)) (f.clauses 𝓤 H A mem run) (WpFn 𝓤 H (𝓣 .C) (𝓣 .Λ) code.function) (WpFn-mono 𝓤 H (W .laws) 𝓣 code.function) walks
+  meets =
+      walk-meets 𝓤 H A f.ended stayed W (
+        goes-none-slice 𝓤 H A W 2 (0 ∷ []) tt (plain (λ _. u8)) kept,
+        (goes-none-slice 𝓤 H A W 2 (1 ∷ []) tt (plain (λ _. R)) kept, tt),
+      ) (f.clauses 𝓤 H A mem run) (WpFn 𝓤 H (𝓣 .C) (𝓣 .Λ) code.function)
+      (WpFn-mono 𝓤 H (W .laws) 𝓣 code.function) walks
 
 pub verdict-of-records-spec : {M : Type 1} → stated.statement M
 unfolding code.routine tablesOf

@@ -23,7 +23,9 @@ marked-requires : tie.Need-marked-requires
 marked-requires c κs = search needs
 
 returns-3 : tie.Need-returns-3
-returns-3 c = amiss-mark _ _ _ _ _ _ _ (c .before .before .before .if1 .left) (c .before .if2 .left) _ (c .marked .ensures)
+returns-3 c =
+    amiss-mark _ _ _ _ _ _ _ (c .before .before .before .if1 .left) (c .before .if2 .left) _
+    (c .marked .ensures)
 
 pub amiss-spec : {M : Type 1} → statement M
 amiss-spec =

@@ -29,7 +29,8 @@ marked-requires : tie.Need-marked-requires
 marked-requires c κs = search needs
 
 returns-2 : tie.Need-returns-2
-returns-2 c = lacking-mark _ _ _ _ _ (c .before .before .if1 .left) _ (c .before .byte .ensures .0) _ (c .marked .ensures)
+returns-2 c =
+    lacking-mark _ _ _ _ _ (c .before .before .if1 .left) _ (c .before .byte .ensures .0) _ (c .marked .ensures)
 
 pub lacking-spec : {M : Type 1} → statement M
 lacking-spec =

@@ -13,7 +13,8 @@ use Rattle.search.specs.Every.{some-yes, some-no}
 use Rattle.judge.specs.Scans.{amissAt}
 
 abbrev Inv-loop : tie.InvT-loop
-Inv-loop owners kinds done first unit most x₀ x = (x ≤ length owners) × ((i : ℕ) → i < x → T (not (amissAt owners kinds done first unit most i)))
+Inv-loop owners kinds done first unit most x₀ x =
+    (x ≤ length owners) × ((i : ℕ) → i < x → T (not (amissAt owners kinds done first unit most i)))
 
 abbrev μ-loop : tie.MeasureT-loop
 μ-loop owners kinds done first unit most x₀ x = length owners - x
@@ -25,7 +26,8 @@ amiss-requires : tie.Need-amiss-requires Inv-loop μ-loop
 amiss-requires c κs = search needs
 
 returns : tie.Need-returns Inv-loop μ-loop
-returns c = some-yes _ _ _ (c .before .before .loop-test .taken) (says (c .before .amiss .ensures) (c .if1 .taken))
+returns c =
+    some-yes _ _ _ (c .before .before .loop-test .taken) (says (c .before .amiss .ensures) (c .if1 .taken))
 
 add-x : tie.Need-add-x Inv-loop μ-loop
 add-x c = search needs
@@ -34,7 +36,11 @@ loop-less : tie.Need-loop-less Inv-loop μ-loop
 loop-less c = search needs
 
 loop-again : tie.Need-loop-again Inv-loop μ-loop
-loop-again c = (search needs, below-more _ _ (c .before .before .before .loop .inv .1) (denies (c .before .amiss .ensures) (c .if1 .left)))
+loop-again c = (
+  search needs,
+  below-more _ _ (c .before .before .before .loop .inv .1)
+      (denies (c .before .amiss .ensures) (c .if1 .left)),
+)
 
 returns-2 : tie.Need-returns-2 Inv-loop μ-loop
 returns-2 c = some-no _ _ _ (c .loop-test .left) (c .before .loop .inv .1)

@@ -12,7 +12,8 @@ use Rattle.search.specs.Every.{some-yes, some-no}
 use Rattle.judge.specs.Scans.{lackingAt}
 
 abbrev Inv-loop : tie.InvT-loop
-Inv-loop pairs done first output f k₀ k = (k ≤ f) × ((i : ℕ) → i < k → T (not (lackingAt pairs done first output i)))
+Inv-loop pairs done first output f k₀ k =
+    (k ≤ f) × ((i : ℕ) → i < k → T (not (lackingAt pairs done first output i)))
 
 abbrev μ-loop : tie.MeasureT-loop
 μ-loop pairs done first output f k₀ k = f - k
@@ -24,7 +25,8 @@ lacking-requires : tie.Need-lacking-requires Inv-loop μ-loop
 lacking-requires c κs = search needs
 
 returns : tie.Need-returns Inv-loop μ-loop
-returns c = some-yes _ _ _ (c .before .before .loop-test .taken) (says (c .before .lacking .ensures) (c .if1 .taken))
+returns c =
+    some-yes _ _ _ (c .before .before .loop-test .taken) (says (c .before .lacking .ensures) (c .if1 .taken))
 
 add-k : tie.Need-add-k Inv-loop μ-loop
 add-k c = search needs
@@ -33,7 +35,11 @@ loop-less : tie.Need-loop-less Inv-loop μ-loop
 loop-less c = search needs
 
 loop-again : tie.Need-loop-again Inv-loop μ-loop
-loop-again c = (search needs, below-more _ _ (c .before .before .before .loop .inv .1) (denies (c .before .lacking .ensures) (c .if1 .left)))
+loop-again c = (
+  search needs,
+  below-more _ _ (c .before .before .before .loop .inv .1)
+      (denies (c .before .lacking .ensures) (c .if1 .left)),
+)
 
 returns-2 : tie.Need-returns-2 Inv-loop μ-loop
 returns-2 c = some-no _ _ _ (c .loop-test .left) (c .before .loop .inv .1)

@@ -26,7 +26,30 @@ cast-lower-keyed : tie.Need-cast-lower-keyed
 cast-lower-keyed c = search needs
 
 lower-keyed-requires : tie.Need-lower-keyed-requires
-lower-keyed-requires c κs = let a = c .before .before .before .before .before .args in let p = c .before .before .before .before .before .pre in (p .1 .1 .0, (omega (arith, c .before .before .before .unit-count .ensures .0, ap length (c .before .output-owners .ensures), long-output-owners (a .table .now) (p .0 .long), fits (a .table .now) (p .0)), (λ k. omega (arith, p .1 .1 .1 k, step-gives (a .table .now) (p .0) (a .unit) (c .before .before .before .unit-count .result) (units (a .table .now) + outputs (a .table .now)) (c .before .output-owners .result .now) (inputOwners (a .table .now)) (kinds (a .table .now)) (p .1 .0) (c .before .before .before .unit-count .ensures .0) refl (c .before .output-owners .ensures) refl refl k))))
+lower-keyed-requires c κs =
+    let a = c .before .before .before .before .before .args in
+    let p = c .before .before .before .before .before .pre in (
+      p .1 .1 .0,
+      (
+        omega (
+          arith,
+          c .before .before .before .unit-count .ensures .0,
+          ap length (c .before .output-owners .ensures),
+          long-output-owners (a .table .now) (p .0 .long),
+          fits (a .table .now) (p .0),
+        ),
+        (λ k.
+            omega (
+              arith,
+              p .1 .1 .1 k,
+              step-gives (a .table .now) (p .0) (a .unit) (c .before .before .before .unit-count .result)
+                  (units (a .table .now) + outputs (a .table .now)) (c .before .output-owners .result .now)
+                  (inputOwners (a .table .now)) (kinds (a .table .now)) (p .1 .0)
+                  (c .before .before .before .unit-count .ensures .0) refl (c .before .output-owners .ensures) refl refl
+                  k,
+            )),
+      ),
+    )
 
 input-owners-requires : tie.Need-input-owners-requires
 input-owners-requires c κs = search needs
@@ -38,10 +61,42 @@ input-kinds-requires : tie.Need-input-kinds-requires
 input-kinds-requires c κs = search needs
 
 lower-both-requires : tie.Need-lower-both-requires
-lower-both-requires c κs = let a = c .before .before .before .before .before .before .before .before .before .args in let p = c .before .before .before .before .before .before .before .before .before .pre in let e = ap₂ _+_ (c .before .before .before .before .before .before .before .unit-count .ensures .0) (c .before .before .before .before .before .before .output-count .ensures .0) in let l = p .0 .long in let i = c .before .before .input-owners .ensures in let k = c .before .input-kinds .ensures in (c .before .before .before .lower-keyed .ensures .long ∙ p .1 .1 .0, (ap length i ∙ long-input-owners (a .table .now) l ∙ sym (ap length k ∙ long-kinds (a .table .now) l), (omega (arith, e, ap length i, long-input-owners (a .table .now) l, fits (a .table .now) (p .0)), less-left _ _ _ _ _ (step-gives (a .table .now) (p .0) (a .unit) _ _ _ _ _ (p .1 .0) (c .before .before .before .before .before .before .before .unit-count .ensures .0) e (c .before .before .before .before .before .output-owners .ensures) i k) (p .1 .1 .1) (c .before .before .before .lower-keyed .ensures))))
+lower-both-requires c κs =
+    let a = c .before .before .before .before .before .before .before .before .before .args in
+    let p = c .before .before .before .before .before .before .before .before .before .pre in
+    let e =
+    ap₂ _+_ (c .before .before .before .before .before .before .before .unit-count .ensures .0)
+    (c .before .before .before .before .before .before .output-count .ensures .0) in
+    let l = p .0 .long in
+    let i = c .before .before .input-owners .ensures in
+    let k = c .before .input-kinds .ensures in (
+      c .before .before .before .lower-keyed .ensures .long ∙ p .1 .1 .0,
+      (
+        ap length i ∙ long-input-owners (a .table .now) l ∙ sym (ap length k ∙ long-kinds (a .table .now) l),
+        (
+          omega (arith, e, ap length i, long-input-owners (a .table .now) l, fits (a .table .now) (p .0)),
+          less-left _ _ _ _ _
+              (step-gives (a .table .now) (p .0) (a .unit) _ _ _ _ _ (p .1 .0)
+              (c .before .before .before .before .before .before .before .unit-count .ensures .0) e
+              (c .before .before .before .before .before .output-owners .ensures) i k) (p .1 .1 .1)
+              (c .before .before .before .lower-keyed .ensures),
+        ),
+      ),
+    )
 
 returns : tie.Need-returns
-returns c = let a = c .before .before .before .before .before .before .before .before .before .before .args in let p = c .before .before .before .before .before .before .before .before .before .before .pre in let e = ap₂ _+_ (c .before .before .before .before .before .before .before .before .unit-count .ensures .0) (c .before .before .before .before .before .before .before .output-count .ensures .0) in less-both _ _ _ _ _ _ (step-gives (a .table .now) (p .0) (a .unit) _ _ _ _ _ (p .1 .0) (c .before .before .before .before .before .before .before .before .unit-count .ensures .0) e (c .before .before .before .before .before .before .output-owners .ensures) (c .before .before .before .input-owners .ensures) (c .before .before .input-kinds .ensures)) (c .before .before .before .before .lower-keyed .ensures) (c .lower-both .ensures)
+returns c =
+    let a = c .before .before .before .before .before .before .before .before .before .before .args in
+    let p = c .before .before .before .before .before .before .before .before .before .before .pre in
+    let e =
+    ap₂ _+_ (c .before .before .before .before .before .before .before .before .unit-count .ensures .0)
+    (c .before .before .before .before .before .before .before .output-count .ensures .0) in
+    less-both _ _ _ _ _ _
+    (step-gives (a .table .now) (p .0) (a .unit) _ _ _ _ _ (p .1 .0)
+    (c .before .before .before .before .before .before .before .before .unit-count .ensures .0) e
+    (c .before .before .before .before .before .before .output-owners .ensures)
+    (c .before .before .before .input-owners .ensures) (c .before .before .input-kinds .ensures))
+    (c .before .before .before .before .lower-keyed .ensures) (c .lower-both .ensures)
 
 pub release-step-spec : {M : Type 1} → statement M
 release-step-spec =

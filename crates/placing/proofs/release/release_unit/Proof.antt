@@ -20,19 +20,62 @@ byte-requires-2 : tie.Need-byte-requires-2
 byte-requires-2 c κs = search needs
 
 element-copy-out-waiting : tie.Need-element-copy-out-waiting
-element-copy-out-waiting c = let a = c .before .before .before .before .before .before .args in let p = c .before .before .before .before .before .before .pre in own-fits (a .table .now) (p .0) (a .input) (c .byte2 .result) (p .1 .0) (c .byte2 .ensures .0 ∙ ap (λ l. getD l (a .input) 0) (c .before .input-owners .ensures))
+element-copy-out-waiting c =
+    let a = c .before .before .before .before .before .before .args in
+    let p = c .before .before .before .before .before .before .pre in
+    own-fits (a .table .now) (p .0) (a .input) (c .byte2 .result) (p .1 .0)
+    (c .byte2 .ensures .0 ∙ ap (λ l. getD l (a .input) 0) (c .before .input-owners .ensures))
 
 sub-waiting : tie.Need-sub-waiting
-sub-waiting c = let a = c .before .before .before .before .before .before .before .args in let p = c .before .before .before .before .before .before .before .pre in let k = c .before .before .before .before .byte .ensures .0 ∙ ap (λ l. getD l (a .input) 0) (c .before .before .before .before .before .input-kinds .ensures) in let o = c .before .byte2 .ensures .0 ∙ ap (λ l. getD l (a .input) 0) (c .before .before .input-owners .ensures) in omega (arith, p .1 .1 .1 (c .before .byte2 .result), own-some (a .table .now) (p .0) (a .input) (c .before .before .before .before .byte .result) (c .before .byte2 .result) k (c .before .before .before .if1 .taken) o)
+sub-waiting c =
+    let a = c .before .before .before .before .before .before .before .args in
+    let p = c .before .before .before .before .before .before .before .pre in
+    let k =
+    c .before .before .before .before .byte .ensures .0
+    ∙ ap (λ l. getD l (a .input) 0) (c .before .before .before .before .before .input-kinds .ensures) in
+    let o =
+    c .before .byte2 .ensures .0 ∙ ap (λ l. getD l (a .input) 0) (c .before .before .input-owners .ensures) in
+    omega (
+      arith,
+      p .1 .1 .1 (c .before .byte2 .result),
+      own-some (a .table .now) (p .0) (a .input) (c .before .before .before .before .byte .result)
+          (c .before .byte2 .result) k (c .before .before .before .if1 .taken) o,
+    )
 
 element-write-waiting : tie.Need-element-write-waiting
-element-write-waiting c = let a = c .before .before .before .before .before .before .before .args in let p = c .before .before .before .before .before .before .before .pre in own-fits (a .table .now) (p .0) (a .input) (c .before .byte2 .result) (p .1 .0) (c .before .byte2 .ensures .0 ∙ ap (λ l. getD l (a .input) 0) (c .before .before .input-owners .ensures))
+element-write-waiting c =
+    let a = c .before .before .before .before .before .before .before .args in
+    let p = c .before .before .before .before .before .before .before .pre in
+    own-fits (a .table .now) (p .0) (a .input) (c .before .byte2 .result) (p .1 .0)
+    (c .before .byte2 .ensures .0 ∙ ap (λ l. getD l (a .input) 0) (c .before .before .input-owners .ensures))
 
 returns : tie.Need-returns
-returns c = let a = c .before .before .before .before .before .before .before .args in let p = c .before .before .before .before .before .before .before .pre in let k = c .before .before .before .before .byte .ensures .0 ∙ ap (λ l. getD l (a .input) 0) (c .before .before .before .before .before .input-kinds .ensures) in let o = c .before .byte2 .ensures .0 ∙ ap (λ l. getD l (a .input) 0) (c .before .before .input-owners .ensures) in own-lower (a .table .now) (p .0) (a .input) (c .before .before .before .before .byte .result) (c .before .byte2 .result) (a .waiting .now) k (c .before .before .before .if1 .taken) o (omega (arith, p .1 .1 .0, own-fits (a .table .now) (p .0) (a .input) (c .before .byte2 .result) (p .1 .0) o)) (omega (arith, p .1 .1 .1 (c .before .byte2 .result), own-some (a .table .now) (p .0) (a .input) (c .before .before .before .before .byte .result) (c .before .byte2 .result) k (c .before .before .before .if1 .taken) o))
+returns c =
+    let a = c .before .before .before .before .before .before .before .args in
+    let p = c .before .before .before .before .before .before .before .pre in
+    let k =
+    c .before .before .before .before .byte .ensures .0
+    ∙ ap (λ l. getD l (a .input) 0) (c .before .before .before .before .before .input-kinds .ensures) in
+    let o =
+    c .before .byte2 .ensures .0 ∙ ap (λ l. getD l (a .input) 0) (c .before .before .input-owners .ensures) in
+    own-lower (a .table .now) (p .0) (a .input) (c .before .before .before .before .byte .result)
+    (c .before .byte2 .result) (a .waiting .now) k (c .before .before .before .if1 .taken) o
+    (omega (arith, p .1 .1 .0, own-fits (a .table .now) (p .0) (a .input) (c .before .byte2 .result) (p .1 .0) o))
+    (omega (
+      arith,
+      p .1 .1 .1 (c .before .byte2 .result),
+      own-some (a .table .now) (p .0) (a .input) (c .before .before .before .before .byte .result)
+          (c .before .byte2 .result) k (c .before .before .before .if1 .taken) o,
+    ))
 
 returns-2 : tie.Need-returns-2
-returns-2 c = let a = c .before .before .before .before .args in let p = c .before .before .before .before .pre in let k = c .before .byte .ensures .0 ∙ ap (λ l. getD l (a .input) 0) (c .before .before .input-kinds .ensures) in record { long = search needs; less = λ m. omega (arith, own-none (a .table .now) (p .0) (a .input) (c .before .byte .result) k (c .if1 .left) m) }
+returns-2 c =
+    let a = c .before .before .before .before .args in
+    let p = c .before .before .before .before .pre in
+    let k =
+    c .before .byte .ensures .0 ∙ ap (λ l. getD l (a .input) 0) (c .before .before .input-kinds .ensures) in
+    record
+    { long = search needs; less = λ m. omega (arith, own-none (a .table .now) (p .0) (a .input) (c .before .byte .result) k (c .if1 .left) m) }
 
 pub release-unit-spec : {M : Type 1} → statement M
 release-unit-spec =

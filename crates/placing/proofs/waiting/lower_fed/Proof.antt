@@ -10,7 +10,8 @@ use Rattle.placing.proofs.Hits.{less-none, less-all, lower-some, lower-
 use mathlib.Core.Logic.{⊎-elim}
 
 abbrev Inv-loop : tie.InvT-loop
-Inv-loop pairs count input first waiting₀ k₀ waiting k = (k ≤ count) × Less (hits (isInput pairs input) (fed pairs first) k) waiting₀ waiting
+Inv-loop pairs count input first waiting₀ k₀ waiting k =
+    (k ≤ count) × Less (hits (isInput pairs input) (fed pairs first) k) waiting₀ waiting
 
 abbrev μ-loop : tie.MeasureT-loop
 μ-loop pairs count input first waiting₀ k₀ waiting k = count - k
@@ -34,19 +35,33 @@ shared-slice-read-output : tie.Need-shared-slice-read-output Inv-loop μ-loop
 shared-slice-read-output c = search needs
 
 cast-output : tie.Need-cast-output Inv-loop μ-loop
-cast-output c = record { fits = omega (arith, c .before .before .before .before .before .pre .1 .1 .0 (c .before .before .before .before .loop .k) (c .before .before .before .loop-test .taken)) }
+cast-output c =
+    record
+    { fits = omega (arith, c .before .before .before .before .before .pre .1 .1 .0 (c .before .before .before .before .loop .k) (c .before .before .before .loop-test .taken)) }
 
 add-waiting : tie.Need-add-waiting Inv-loop μ-loop
-add-waiting c = record { fits = omega (arith, c .before .before .before .before .before .pre .1 .1 .0 (c .before .before .before .before .loop .k) (c .before .before .before .loop-test .taken)) }
+add-waiting c =
+    record
+    { fits = omega (arith, c .before .before .before .before .before .pre .1 .1 .0 (c .before .before .before .before .loop .k) (c .before .before .before .loop-test .taken)) }
 
 element-copy-out-waiting : tie.Need-element-copy-out-waiting Inv-loop μ-loop
-element-copy-out-waiting c = c .before .before .before .before .before .pre .1 .1 .0 (c .before .before .before .before .loop .k) (c .before .before .before .loop-test .taken)
+element-copy-out-waiting c =
+    c .before .before .before .before .before .pre .1 .1 .0 (c .before .before .before .before .loop .k)
+    (c .before .before .before .loop-test .taken)
 
 sub-waiting : tie.Need-sub-waiting Inv-loop μ-loop
-sub-waiting c = let a = c .before .before .before .before .before .before .args in let l = c .before .before .before .before .before .loop in lower-some (isInput (a .pairs .now) (a .input)) (fed (a .pairs .now) (a .first)) (l .k) (a .count) (a .waiting .now) (l .waiting) (c .before .before .before .before .loop-test .taken) (eq-true _ _ (c .before .before .if1 .taken)) (c .before .before .before .before .before .before .pre .1 .1 .1) (l .inv .1)
+sub-waiting c =
+    let a = c .before .before .before .before .before .before .args in
+    let l = c .before .before .before .before .before .loop in
+    lower-some (isInput (a .pairs .now) (a .input)) (fed (a .pairs .now) (a .first)) (l .k) (a .count)
+    (a .waiting .now) (l .waiting) (c .before .before .before .before .loop-test .taken)
+    (eq-true _ _ (c .before .before .if1 .taken))
+    (c .before .before .before .before .before .before .pre .1 .1 .1) (l .inv .1)
 
 element-write-waiting : tie.Need-element-write-waiting Inv-loop μ-loop
-element-write-waiting c = c .before .before .before .before .before .before .pre .1 .1 .0 (c .before .before .before .before .before .loop .k) (c .before .before .before .before .loop-test .taken)
+element-write-waiting c =
+    c .before .before .before .before .before .before .pre .1 .1 .0
+    (c .before .before .before .before .before .loop .k) (c .before .before .before .before .loop-test .taken)
 
 add-k : tie.Need-add-k Inv-loop μ-loop
 add-k c = search needs
@@ -55,10 +70,30 @@ loop-less : tie.Need-loop-less Inv-loop μ-loop
 loop-less c = search needs
 
 loop-again : tie.Need-loop-again Inv-loop μ-loop
-loop-again c = let a = c .before .before .before .before .args in let l = c .before .before .before .loop in (search needs, ⊎-elim (λ w. rw (w .3) (lower-hit (isInput (a .pairs .now) (a .input)) (fed (a .pairs .now) (a .first)) (l .k) (a .count) (a .waiting .now) (l .waiting) (c .before .before .loop-test .taken) (eq-true _ _ (w .0 .taken)) (omega (arith, c .before .before .before .before .pre .1 .1 .0 (l .k) (c .before .before .loop-test .taken))) (c .before .before .before .before .pre .1 .1 .1) (l .inv .1))) (λ w. rw (w .1) (less-miss (isInput (a .pairs .now) (a .input)) (fed (a .pairs .now) (a .first)) (l .k) (a .waiting .now) (l .waiting) (eq-false _ _ (w .0 .left)) (l .inv .1))) (c .if1 .came))
+loop-again c =
+    let a = c .before .before .before .before .args in
+    let l = c .before .before .before .loop in (
+      search needs,
+      ⊎-elim
+          (λ w.
+          rw (w .3)
+          (lower-hit (isInput (a .pairs .now) (a .input)) (fed (a .pairs .now) (a .first)) (l .k) (a .count)
+          (a .waiting .now) (l .waiting) (c .before .before .loop-test .taken) (eq-true _ _ (w .0 .taken))
+          (omega
+          (arith, c .before .before .before .before .pre .1 .1 .0 (l .k) (c .before .before .loop-test .taken)))
+          (c .before .before .before .before .pre .1 .1 .1) (l .inv .1)))
+          (λ w.
+          rw (w .1)
+          (less-miss (isInput (a .pairs .now) (a .input)) (fed (a .pairs .now) (a .first)) (l .k) (a .waiting .now)
+          (l .waiting) (eq-false _ _ (w .0 .left)) (l .inv .1))) (c .if1 .came),
+    )
 
 returns : tie.Need-returns Inv-loop μ-loop
-returns c = let a = c .before .before .args in let l = c .before .loop in less-all (isInput (a .pairs .now) (a .input)) (fed (a .pairs .now) (a .first)) (a .count) (l .k) (a .waiting .now) (l .waiting) (l .inv .0) (c .loop-test .left) (l .inv .1)
+returns c =
+    let a = c .before .before .args in
+    let l = c .before .loop in
+    less-all (isInput (a .pairs .now) (a .input)) (fed (a .pairs .now) (a .first)) (a .count) (l .k)
+    (a .waiting .now) (l .waiting) (l .inv .0) (c .loop-test .left) (l .inv .1)
 
 pub lower-fed-spec : {M : Type 1} → statement M
 lower-fed-spec =

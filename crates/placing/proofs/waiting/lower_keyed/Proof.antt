@@ -10,7 +10,8 @@ use Rattle.placing.proofs.Hits.{less-none, less-all, lower-some, lower-
 use mathlib.Core.Logic.{⊎-elim}
 
 abbrev Inv-loop : tie.InvT-loop
-Inv-loop keys key first waiting₀ i₀ waiting i = (i ≤ (length keys)) × Less (hits (isKey keys key) (nth first) i) waiting₀ waiting
+Inv-loop keys key first waiting₀ i₀ waiting i =
+    (i ≤ (length keys)) × Less (hits (isKey keys key) (nth first) i) waiting₀ waiting
 
 abbrev μ-loop : tie.MeasureT-loop
 μ-loop keys key first waiting₀ i₀ waiting i = (length keys) - i
@@ -28,7 +29,12 @@ element-copy-out-waiting : tie.Need-element-copy-out-waiting Inv-loop μ-loop
 element-copy-out-waiting c = search needs
 
 sub-waiting : tie.Need-sub-waiting Inv-loop μ-loop
-sub-waiting c = let a = c .before .before .before .before .before .args in let l = c .before .before .before .before .loop in lower-some (isKey (a .keys .now) (a .key)) (nth (a .first)) (l .i) (length (a .keys .now)) (a .waiting .now) (l .waiting) (c .before .before .before .loop-test .taken) (eq-true _ _ (c .before .if1 .taken)) (c .before .before .before .before .before .pre .1 .1) (l .inv .1)
+sub-waiting c =
+    let a = c .before .before .before .before .before .args in
+    let l = c .before .before .before .before .loop in
+    lower-some (isKey (a .keys .now) (a .key)) (nth (a .first)) (l .i) (length (a .keys .now)) (a .waiting .now)
+    (l .waiting) (c .before .before .before .loop-test .taken) (eq-true _ _ (c .before .if1 .taken))
+    (c .before .before .before .before .before .pre .1 .1) (l .inv .1)
 
 element-write-waiting : tie.Need-element-write-waiting Inv-loop μ-loop
 element-write-waiting c = search needs
@@ -40,10 +46,28 @@ loop-less : tie.Need-loop-less Inv-loop μ-loop
 loop-less c = search needs
 
 loop-again : tie.Need-loop-again Inv-loop μ-loop
-loop-again c = let a = c .before .before .before .before .args in let l = c .before .before .before .loop in (search needs, ⊎-elim (λ w. rw (w .2) (lower-hit (isKey (a .keys .now) (a .key)) (nth (a .first)) (l .i) (length (a .keys .now)) (a .waiting .now) (l .waiting) (c .before .before .loop-test .taken) (eq-true _ _ (w .0 .taken)) (search needs) (c .before .before .before .before .pre .1 .1) (l .inv .1))) (λ w. rw (w .1) (less-miss (isKey (a .keys .now) (a .key)) (nth (a .first)) (l .i) (a .waiting .now) (l .waiting) (eq-false _ _ (w .0 .left)) (l .inv .1))) (c .if1 .came))
+loop-again c =
+    let a = c .before .before .before .before .args in
+    let l = c .before .before .before .loop in (
+      search needs,
+      ⊎-elim
+          (λ w.
+          rw (w .2)
+          (lower-hit (isKey (a .keys .now) (a .key)) (nth (a .first)) (l .i) (length (a .keys .now))
+          (a .waiting .now) (l .waiting) (c .before .before .loop-test .taken) (eq-true _ _ (w .0 .taken))
+          (search needs) (c .before .before .before .before .pre .1 .1) (l .inv .1)))
+          (λ w.
+          rw (w .1)
+          (less-miss (isKey (a .keys .now) (a .key)) (nth (a .first)) (l .i) (a .waiting .now) (l .waiting)
+          (eq-false _ _ (w .0 .left)) (l .inv .1))) (c .if1 .came),
+    )
 
 returns : tie.Need-returns Inv-loop μ-loop
-returns c = let a = c .before .before .args in let l = c .before .loop in less-all (isKey (a .keys .now) (a .key)) (nth (a .first)) (length (a .keys .now)) (l .i) (a .waiting .now) (l .waiting) (l .inv .0) (c .loop-test .left) (l .inv .1)
+returns c =
+    let a = c .before .before .args in
+    let l = c .before .loop in
+    less-all (isKey (a .keys .now) (a .key)) (nth (a .first)) (length (a .keys .now)) (l .i) (a .waiting .now)
+    (l .waiting) (l .inv .0) (c .loop-test .left) (l .inv .1)
 
 pub lower-keyed-spec : {M : Type 1} → statement M
 lower-keyed-spec =

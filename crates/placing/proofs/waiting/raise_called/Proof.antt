@@ -11,7 +11,8 @@ use Rattle.placing.proofs.Hits.{less-none, less-all, raise-room, raise-
 use mathlib.Core.Logic.{⊎-elim}
 
 abbrev Inv-loop : tie.InvT-loop
-Inv-loop keys key calls waiting₀ i₀ waiting i = (i ≤ (length keys)) × Less (hits (isKey keys key) (called calls) i) waiting waiting₀
+Inv-loop keys key calls waiting₀ i₀ waiting i =
+    (i ≤ (length keys)) × Less (hits (isKey keys key) (called calls) i) waiting waiting₀
 
 abbrev μ-loop : tie.MeasureT-loop
 μ-loop keys key calls waiting₀ i₀ waiting i = (length keys) - i
@@ -26,16 +27,29 @@ shared-slice-read-waiting : tie.Need-shared-slice-read-waiting Inv-loop μ-loop
 shared-slice-read-waiting c = search needs
 
 cast-waiting : tie.Need-cast-waiting Inv-loop μ-loop
-cast-waiting c = record { fits = omega (arith, c .before .before .before .before .before .pre .1 .1 .0 (c .before .before .before .before .loop .i) (c .before .before .before .loop-test .taken)) }
+cast-waiting c =
+    record
+    { fits = omega (arith, c .before .before .before .before .before .pre .1 .1 .0 (c .before .before .before .before .loop .i) (c .before .before .before .loop-test .taken)) }
 
 element-copy-out-waiting : tie.Need-element-copy-out-waiting Inv-loop μ-loop
-element-copy-out-waiting c = let a = c .before .before .before .before .before .args in let l = c .before .before .before .before .loop in c .before .before .before .before .before .pre .1 .1 .0 (l .i) (c .before .before .before .loop-test .taken)
+element-copy-out-waiting c =
+    let a = c .before .before .before .before .before .args in
+    let l = c .before .before .before .before .loop in
+    c .before .before .before .before .before .pre .1 .1 .0 (l .i) (c .before .before .before .loop-test .taken)
 
 add-waiting : tie.Need-add-waiting Inv-loop μ-loop
-add-waiting c = let a = c .before .before .before .before .before .before .args in let l = c .before .before .before .before .before .loop in record { fits = omega (arith, raise-room (isKey (a .keys .now) (a .key)) (called (a .calls .now)) (l .i) (length (a .keys .now)) (l .waiting) (a .waiting .now) (c .before .before .before .before .loop-test .taken) (eq-true _ _ (c .before .before .if1 .taken)) (c .before .before .before .before .before .before .pre .1 .1 .1) (l .inv .1)) }
+add-waiting c =
+    let a = c .before .before .before .before .before .before .args in
+    let l = c .before .before .before .before .before .loop in
+    record
+    { fits = omega (arith, raise-room (isKey (a .keys .now) (a .key)) (called (a .calls .now)) (l .i) (length (a .keys .now)) (l .waiting) (a .waiting .now) (c .before .before .before .before .loop-test .taken) (eq-true _ _ (c .before .before .if1 .taken)) (c .before .before .before .before .before .before .pre .1 .1 .1) (l .inv .1)) }
 
 element-write-waiting : tie.Need-element-write-waiting Inv-loop μ-loop
-element-write-waiting c = let a = c .before .before .before .before .before .before .args in let l = c .before .before .before .before .before .loop in c .before .before .before .before .before .before .pre .1 .1 .0 (l .i) (c .before .before .before .before .loop-test .taken)
+element-write-waiting c =
+    let a = c .before .before .before .before .before .before .args in
+    let l = c .before .before .before .before .before .loop in
+    c .before .before .before .before .before .before .pre .1 .1 .0 (l .i)
+    (c .before .before .before .before .loop-test .taken)
 
 add-i : tie.Need-add-i Inv-loop μ-loop
 add-i c = search needs
@@ -44,10 +58,30 @@ loop-less : tie.Need-loop-less Inv-loop μ-loop
 loop-less c = search needs
 
 loop-again : tie.Need-loop-again Inv-loop μ-loop
-loop-again c = let a = c .before .before .before .before .args in let l = c .before .before .before .loop in (search needs, ⊎-elim (λ w. rw (w .3) (raise-hit (isKey (a .keys .now) (a .key)) (called (a .calls .now)) (l .i) (l .waiting) (a .waiting .now) (eq-true _ _ (w .0 .taken)) (omega (arith, c .before .before .before .before .pre .1 .1 .0 (l .i) (c .before .before .loop-test .taken))) (l .inv .1))) (λ w. rw (w .1) (less-miss (isKey (a .keys .now) (a .key)) (called (a .calls .now)) (l .i) (l .waiting) (a .waiting .now) (eq-false _ _ (w .0 .left)) (l .inv .1))) (c .if1 .came))
+loop-again c =
+    let a = c .before .before .before .before .args in
+    let l = c .before .before .before .loop in (
+      search needs,
+      ⊎-elim
+          (λ w.
+          rw (w .3)
+          (raise-hit (isKey (a .keys .now) (a .key)) (called (a .calls .now)) (l .i) (l .waiting) (a .waiting .now)
+          (eq-true _ _ (w .0 .taken))
+          (omega
+          (arith, c .before .before .before .before .pre .1 .1 .0 (l .i) (c .before .before .loop-test .taken)))
+          (l .inv .1)))
+          (λ w.
+          rw (w .1)
+          (less-miss (isKey (a .keys .now) (a .key)) (called (a .calls .now)) (l .i) (l .waiting) (a .waiting .now)
+          (eq-false _ _ (w .0 .left)) (l .inv .1))) (c .if1 .came),
+    )
 
 returns : tie.Need-returns Inv-loop μ-loop
-returns c = let a = c .before .before .args in let l = c .before .loop in less-all (isKey (a .keys .now) (a .key)) (called (a .calls .now)) (length (a .keys .now)) (l .i) (l .waiting) (a .waiting .now) (l .inv .0) (c .loop-test .left) (l .inv .1)
+returns c =
+    let a = c .before .before .args in
+    let l = c .before .loop in
+    less-all (isKey (a .keys .now) (a .key)) (called (a .calls .now)) (length (a .keys .now)) (l .i)
+    (l .waiting) (a .waiting .now) (l .inv .0) (c .loop-test .left) (l .inv .1)
 
 pub raise-called-spec : {M : Type 1} → statement M
 raise-called-spec =

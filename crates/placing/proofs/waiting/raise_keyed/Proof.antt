@@ -11,7 +11,8 @@ use Rattle.placing.proofs.Hits.{less-none, less-all, raise-room, raise-
 use mathlib.Core.Logic.{⊎-elim}
 
 abbrev Inv-loop : tie.InvT-loop
-Inv-loop keys key first waiting₀ i₀ waiting i = (i ≤ (length keys)) × Less (hits (isKey keys key) (nth first) i) waiting waiting₀
+Inv-loop keys key first waiting₀ i₀ waiting i =
+    (i ≤ (length keys)) × Less (hits (isKey keys key) (nth first) i) waiting waiting₀
 
 abbrev μ-loop : tie.MeasureT-loop
 μ-loop keys key first waiting₀ i₀ waiting i = (length keys) - i
@@ -29,7 +30,11 @@ element-copy-out-waiting : tie.Need-element-copy-out-waiting Inv-loop μ-loop
 element-copy-out-waiting c = search needs
 
 add-waiting-2 : tie.Need-add-waiting-2 Inv-loop μ-loop
-add-waiting-2 c = let a = c .before .before .before .before .before .args in let l = c .before .before .before .before .loop in record { fits = omega (arith, raise-room (isKey (a .keys .now) (a .key)) (nth (a .first)) (l .i) (length (a .keys .now)) (l .waiting) (a .waiting .now) (c .before .before .before .loop-test .taken) (eq-true _ _ (c .before .if1 .taken)) (c .before .before .before .before .before .pre .1 .1) (l .inv .1)) }
+add-waiting-2 c =
+    let a = c .before .before .before .before .before .args in
+    let l = c .before .before .before .before .loop in
+    record
+    { fits = omega (arith, raise-room (isKey (a .keys .now) (a .key)) (nth (a .first)) (l .i) (length (a .keys .now)) (l .waiting) (a .waiting .now) (c .before .before .before .loop-test .taken) (eq-true _ _ (c .before .if1 .taken)) (c .before .before .before .before .before .pre .1 .1) (l .inv .1)) }
 
 element-write-waiting : tie.Need-element-write-waiting Inv-loop μ-loop
 element-write-waiting c = search needs
@@ -41,10 +46,27 @@ loop-less : tie.Need-loop-less Inv-loop μ-loop
 loop-less c = search needs
 
 loop-again : tie.Need-loop-again Inv-loop μ-loop
-loop-again c = let a = c .before .before .before .before .args in let l = c .before .before .before .loop in (search needs, ⊎-elim (λ w. rw (w .2) (raise-hit (isKey (a .keys .now) (a .key)) (nth (a .first)) (l .i) (l .waiting) (a .waiting .now) (eq-true _ _ (w .0 .taken)) (search needs) (l .inv .1))) (λ w. rw (w .1) (less-miss (isKey (a .keys .now) (a .key)) (nth (a .first)) (l .i) (l .waiting) (a .waiting .now) (eq-false _ _ (w .0 .left)) (l .inv .1))) (c .if1 .came))
+loop-again c =
+    let a = c .before .before .before .before .args in
+    let l = c .before .before .before .loop in (
+      search needs,
+      ⊎-elim
+          (λ w.
+          rw (w .2)
+          (raise-hit (isKey (a .keys .now) (a .key)) (nth (a .first)) (l .i) (l .waiting) (a .waiting .now)
+          (eq-true _ _ (w .0 .taken)) (search needs) (l .inv .1)))
+          (λ w.
+          rw (w .1)
+          (less-miss (isKey (a .keys .now) (a .key)) (nth (a .first)) (l .i) (l .waiting) (a .waiting .now)
+          (eq-false _ _ (w .0 .left)) (l .inv .1))) (c .if1 .came),
+    )
 
 returns : tie.Need-returns Inv-loop μ-loop
-returns c = let a = c .before .before .args in let l = c .before .loop in less-all (isKey (a .keys .now) (a .key)) (nth (a .first)) (length (a .keys .now)) (l .i) (l .waiting) (a .waiting .now) (l .inv .0) (c .loop-test .left) (l .inv .1)
+returns c =
+    let a = c .before .before .args in
+    let l = c .before .loop in
+    less-all (isKey (a .keys .now) (a .key)) (nth (a .first)) (length (a .keys .now)) (l .i) (l .waiting)
+    (a .waiting .now) (l .inv .0) (c .loop-test .left) (l .inv .1)
 
 pub raise-keyed-spec : {M : Type 1} → statement M
 raise-keyed-spec =

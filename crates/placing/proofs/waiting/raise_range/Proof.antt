@@ -23,7 +23,11 @@ element-copy-out-waiting : tie.Need-element-copy-out-waiting Inv-loop μ-loop
 element-copy-out-waiting c = search needs
 
 add-waiting-2 : tie.Need-add-waiting-2 Inv-loop μ-loop
-add-waiting-2 c = let a = c .before .before .before .args in let l = c .before .before .loop in record { fits = omega (arith, raise-room each (nth (a .first)) (l .i) (a .count) (l .waiting) (a .waiting .now) (c .before .loop-test .taken) tt (c .before .before .before .pre .1 .1) (l .inv .1)) }
+add-waiting-2 c =
+    let a = c .before .before .before .args in
+    let l = c .before .before .loop in
+    record
+    { fits = omega (arith, raise-room each (nth (a .first)) (l .i) (a .count) (l .waiting) (a .waiting .now) (c .before .loop-test .taken) tt (c .before .before .before .pre .1 .1) (l .inv .1)) }
 
 element-write-waiting : tie.Need-element-write-waiting Inv-loop μ-loop
 element-write-waiting c = search needs
@@ -35,10 +39,19 @@ loop-less : tie.Need-loop-less Inv-loop μ-loop
 loop-less c = search needs
 
 loop-again : tie.Need-loop-again Inv-loop μ-loop
-loop-again c = let a = c .before .before .before .args in let l = c .before .before .loop in (search needs, raise-hit each (nth (a .first)) (l .i) (l .waiting) (a .waiting .now) tt (search needs) (l .inv .1))
+loop-again c =
+    let a = c .before .before .before .args in
+    let l = c .before .before .loop in (
+      search needs,
+      raise-hit each (nth (a .first)) (l .i) (l .waiting) (a .waiting .now) tt (search needs) (l .inv .1),
+    )
 
 returns : tie.Need-returns Inv-loop μ-loop
-returns c = let a = c .before .before .args in let l = c .before .loop in less-all each (nth (a .first)) (a .count) (l .i) (l .waiting) (a .waiting .now) (l .inv .0) (c .loop-test .left) (l .inv .1)
+returns c =
+    let a = c .before .before .args in
+    let l = c .before .loop in
+    less-all each (nth (a .first)) (a .count) (l .i) (l .waiting) (a .waiting .now) (l .inv .0)
+    (c .loop-test .left) (l .inv .1)
 
 pub raise-range-spec : {M : Type 1} → statement M
 raise-range-spec =

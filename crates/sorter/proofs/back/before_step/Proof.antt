@@ -18,7 +18,9 @@ use Rattle.sorter.specs.Marks.{marked}
 use Rattle.sorter.proofs.Before.{step-ends}
 
 abbrev Inv-loop : tie.InvT-loop
-Inv-loop table unit marks owners kinds first x₀ x = (x ≤ length owners) × ((k : ℕ) → k < x → T (not (areKeys kinds 1 owners unit k && not (marked marks (first + k)))))
+Inv-loop table unit marks owners kinds first x₀ x =
+    (x ≤ length owners) ×
+    ((k : ℕ) → k < x → T (not (areKeys kinds 1 owners unit k && not (marked marks (first + k)))))
 
 abbrev μ-loop : tie.MeasureT-loop
 μ-loop table unit marks owners kinds first x₀ x = length owners - x
@@ -42,16 +44,51 @@ loop-holds : tie.Need-loop-holds Inv-loop μ-loop
 loop-holds c = (search needs, λ k h. absurd (omega arith))
 
 cast-keeps-step : tie.Need-cast-keeps-step Inv-loop μ-loop
-cast-keeps-step c = let p = c .before .before .before .before .before .before .before .pre in record { fits = omega (arith, p .1, p .0 .counted .units-most) }
+cast-keeps-step c =
+    let p = c .before .before .before .before .before .before .before .pre in
+    record { fits = omega (arith, p .1, p .0 .counted .units-most) }
 
 keeps-step-requires : tie.Need-keeps-step-requires Inv-loop μ-loop
-keeps-step-requires c κs = let a = c .before .before .before .before .before .before .before .args in let p = c .before .before .before .before .before .before .before .pre in let o = ap length (c .before .before .before .before .before .input-owners .ensures) ∙ long-input-owners (a .table .now) (p .0 .long) in (c .loop-test .taken, (ap length (c .before .before .before .before .input-kinds .ensures) ∙ long-kinds (a .table .now) (p .0 .long) ∙ sym o, omega (arith, o, c .before .before .before .unit-count .ensures .0, c .before .before .output-count .ensures .0, few-calls (a .table .now) (p .0))))
+keeps-step-requires c κs =
+    let a = c .before .before .before .before .before .before .before .args in
+    let p = c .before .before .before .before .before .before .before .pre in
+    let o =
+    ap length (c .before .before .before .before .before .input-owners .ensures)
+    ∙ long-input-owners (a .table .now) (p .0 .long) in (
+      c .loop-test .taken,
+      (
+        ap length (c .before .before .before .before .input-kinds .ensures)
+            ∙ long-kinds (a .table .now) (p .0 .long)
+            ∙ sym o,
+        omega (
+          arith,
+          o,
+          c .before .before .before .unit-count .ensures .0,
+          c .before .before .output-count .ensures .0,
+          few-calls (a .table .now) (p .0),
+        ),
+      ),
+    )
 
 add-result : tie.Need-add-result Inv-loop μ-loop
 add-result c = search needs
 
 returns : tie.Need-returns Inv-loop μ-loop
-returns c = let a = c .before .before .before .before .before .before .before .before .before .args in let p = c .before .before .before .before .before .before .before .before .before .pre in step-ends (a .table .now) (p .0) (a .unit) (a .marks .now) (c .before .before .before .before .before .unit-count .result + c .before .before .before .before .output-count .result) (c .before .before .before .before .before .before .before .input-owners .result .now) (c .before .before .before .before .before .before .input-kinds .result .now) (c .before .before .before .loop .x) (p .1) (ap₂ _+_ (c .before .before .before .before .before .unit-count .ensures .0) (c .before .before .before .before .output-count .ensures .0)) (c .before .before .before .before .before .before .before .input-owners .ensures) (c .before .before .before .before .before .before .input-kinds .ensures) (found _ _ (c .before .before .before .loop .x) (c .before .before .loop-test .taken) (c .before .before .before .loop .inv .1) (says (c .before .keeps-step .ensures) (c .if1 .taken)))
+returns c =
+    let a = c .before .before .before .before .before .before .before .before .before .args in
+    let p = c .before .before .before .before .before .before .before .before .before .pre in
+    step-ends (a .table .now) (p .0) (a .unit) (a .marks .now)
+    (c .before .before .before .before .before .unit-count .result +
+    c .before .before .before .before .output-count .result)
+    (c .before .before .before .before .before .before .before .input-owners .result .now)
+    (c .before .before .before .before .before .before .input-kinds .result .now)
+    (c .before .before .before .loop .x) (p .1)
+    (ap₂ _+_ (c .before .before .before .before .before .unit-count .ensures .0)
+    (c .before .before .before .before .output-count .ensures .0))
+    (c .before .before .before .before .before .before .before .input-owners .ensures)
+    (c .before .before .before .before .before .before .input-kinds .ensures)
+    (found _ _ (c .before .before .before .loop .x) (c .before .before .loop-test .taken)
+    (c .before .before .before .loop .inv .1) (says (c .before .keeps-step .ensures) (c .if1 .taken)))
 
 add-x : tie.Need-add-x Inv-loop μ-loop
 add-x c = search needs
@@ -60,13 +97,36 @@ loop-less : tie.Need-loop-less Inv-loop μ-loop
 loop-less c = search needs
 
 loop-again : tie.Need-loop-again Inv-loop μ-loop
-loop-again c = (search needs, below-more (λ k. T (not (areKeys (c .before .before .before .before .before .before .input-kinds .result .now) 1 (c .before .before .before .before .before .before .before .input-owners .result .now) (c .before .before .before .before .before .before .before .before .before .args .unit) k && not (marked (c .before .before .before .before .before .before .before .before .before .args .marks .now) (c .before .before .before .before .before .unit-count .result + c .before .before .before .before .output-count .result + k))))) (c .before .before .before .loop .x) (c .before .before .before .loop .inv .1) (denies (c .before .keeps-step .ensures) (c .if1 .left)))
+loop-again c = (
+  search needs,
+  below-more
+      (λ k.
+      T
+      (not
+      (areKeys (c .before .before .before .before .before .before .input-kinds .result .now) 1
+      (c .before .before .before .before .before .before .before .input-owners .result .now)
+      (c .before .before .before .before .before .before .before .before .before .args .unit) k && not
+      (marked (c .before .before .before .before .before .before .before .before .before .args .marks .now)
+      (c .before .before .before .before .before .unit-count .result +
+      c .before .before .before .before .output-count .result + k))))) (c .before .before .before .loop .x)
+      (c .before .before .before .loop .inv .1) (denies (c .before .keeps-step .ensures) (c .if1 .left)),
+)
 
 add-result-2 : tie.Need-add-result-2 Inv-loop μ-loop
 add-result-2 c = search needs
 
 returns-2 : tie.Need-returns-2 Inv-loop μ-loop
-returns-2 c = let a = c .before .before .before .before .before .before .before .args in let p = c .before .before .before .before .before .before .before .pre in step-ends (a .table .now) (p .0) (a .unit) (a .marks .now) (c .before .before .before .unit-count .result + c .before .before .output-count .result) (c .before .before .before .before .before .input-owners .result .now) (c .before .before .before .before .input-kinds .result .now) (c .before .loop .x) (p .1) (ap₂ _+_ (c .before .before .before .unit-count .ensures .0) (c .before .before .output-count .ensures .0)) (c .before .before .before .before .before .input-owners .ensures) (c .before .before .before .before .input-kinds .ensures) (not-found _ _ (c .before .loop .x) (c .loop-test .left) (c .before .loop .inv .0) (c .before .loop .inv .1))
+returns-2 c =
+    let a = c .before .before .before .before .before .before .before .args in
+    let p = c .before .before .before .before .before .before .before .pre in
+    step-ends (a .table .now) (p .0) (a .unit) (a .marks .now)
+    (c .before .before .before .unit-count .result + c .before .before .output-count .result)
+    (c .before .before .before .before .before .input-owners .result .now)
+    (c .before .before .before .before .input-kinds .result .now) (c .before .loop .x) (p .1)
+    (ap₂ _+_ (c .before .before .before .unit-count .ensures .0) (c .before .before .output-count .ensures .0))
+    (c .before .before .before .before .before .input-owners .ensures)
+    (c .before .before .before .before .input-kinds .ensures)
+    (not-found _ _ (c .before .loop .x) (c .loop-test .left) (c .before .loop .inv .0) (c .before .loop .inv .1))
 
 pub before-step-spec : {M : Type 1} → statement M
 before-step-spec =

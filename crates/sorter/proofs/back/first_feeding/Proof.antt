@@ -12,7 +12,8 @@ use Rattle.table.specs.Checked.{few-calls}
 use Rattle.sorter.proofs.Before.{Best, best-starts, best-next, best-all}
 
 abbrev Inv-loop : tie.InvT-loop
-Inv-loop table output marks pairs count first best₀ k₀ best k = (k ≤ count) × Best (shapeOf table) output marks k best
+Inv-loop table output marks pairs count first best₀ k₀ best k =
+    (k ≤ count) × Best (shapeOf table) output marks k best
 
 abbrev μ-loop : tie.MeasureT-loop
 μ-loop table output marks pairs count first best₀ k₀ best k = count - k
@@ -36,13 +37,42 @@ input-count-requires : tie.Need-input-count-requires Inv-loop μ-loop
 input-count-requires c κs = search needs
 
 loop-holds : tie.Need-loop-holds Inv-loop μ-loop
-loop-holds c = (search needs, subst (Best (shapeOf (c .before .before .before .before .before .before .args .table .now)) (c .before .before .before .before .before .before .args .output) (c .before .before .before .before .before .before .args .marks .now) 0) (sym (c .input-count .ensures .0)) (best-starts (shapeOf (c .before .before .before .before .before .before .args .table .now)) (c .before .before .before .before .before .before .args .output) (c .before .before .before .before .before .before .args .marks .now)))
+loop-holds c = (
+  search needs,
+  subst
+      (Best (shapeOf (c .before .before .before .before .before .before .args .table .now))
+      (c .before .before .before .before .before .before .args .output)
+      (c .before .before .before .before .before .before .args .marks .now) 0)
+      (sym (c .input-count .ensures .0))
+      (best-starts (shapeOf (c .before .before .before .before .before .before .args .table .now))
+      (c .before .before .before .before .before .before .args .output)
+      (c .before .before .before .before .before .before .args .marks .now)),
+)
 
 cast-lower-feeding : tie.Need-cast-lower-feeding Inv-loop μ-loop
-cast-lower-feeding c = let p = c .before .before .before .before .before .before .before .before .pre in record { fits = omega (arith, p .1, p .0 .counted .outputs-most) }
+cast-lower-feeding c =
+    let p = c .before .before .before .before .before .before .before .before .pre in
+    record { fits = omega (arith, p .1, p .0 .counted .outputs-most) }
 
 lower-feeding-requires : tie.Need-lower-feeding-requires Inv-loop μ-loop
-lower-feeding-requires c κs = let a = c .before .before .before .before .before .before .before .before .args in let p = c .before .before .before .before .before .before .before .before .pre in (omega (arith, ap length (c .before .before .before .before .before .before .feed-pairs .ensures) ∙ long-pairs (a .table .now) (p .0 .long), c .before .before .before .before .before .feed-count .ensures .0, c .loop-test .taken), omega (arith, c .before .loop .inv .1 .high, c .before .before .before .before .unit-count .ensures .0, c .before .before .before .output-count .ensures .0, few-calls (a .table .now) (p .0)))
+lower-feeding-requires c κs =
+    let a = c .before .before .before .before .before .before .before .before .args in
+    let p = c .before .before .before .before .before .before .before .before .pre in (
+      omega (
+        arith,
+        ap length (c .before .before .before .before .before .before .feed-pairs .ensures)
+            ∙ long-pairs (a .table .now) (p .0 .long),
+        c .before .before .before .before .before .feed-count .ensures .0,
+        c .loop-test .taken,
+      ),
+      omega (
+        arith,
+        c .before .loop .inv .1 .high,
+        c .before .before .before .before .unit-count .ensures .0,
+        c .before .before .before .output-count .ensures .0,
+        few-calls (a .table .now) (p .0),
+      ),
+    )
 
 add-k : tie.Need-add-k Inv-loop μ-loop
 add-k c = search needs
@@ -51,10 +81,36 @@ loop-less : tie.Need-loop-less Inv-loop μ-loop
 loop-less c = search needs
 
 loop-again : tie.Need-loop-again Inv-loop μ-loop
-loop-again c = let a = c .before .before .before .before .before .before .before .before .before .args in let p = c .before .before .before .before .before .before .before .before .before .pre in (search needs, best-next (a .table .now) (p .0) (a .output) (a .marks .now) (c .before .before .before .before .before .unit-count .result + c .before .before .before .before .output-count .result) (c .before .before .before .before .before .before .before .feed-pairs .result .now) (c .before .before .loop .k) (c .before .before .loop .best) (c .lower-feeding .result) (ap₂ _+_ (c .before .before .before .before .before .unit-count .ensures .0) (c .before .before .before .before .output-count .ensures .0)) (c .before .before .before .before .before .before .before .feed-pairs .ensures) (omega (arith, c .before .loop-test .taken, c .before .before .before .before .before .before .feed-count .ensures .0)) (c .lower-feeding .ensures) (c .before .before .loop .inv .1))
+loop-again c =
+    let a = c .before .before .before .before .before .before .before .before .before .args in
+    let p = c .before .before .before .before .before .before .before .before .before .pre in (
+      search needs,
+      best-next (a .table .now) (p .0) (a .output) (a .marks .now)
+          (c .before .before .before .before .before .unit-count .result +
+          c .before .before .before .before .output-count .result)
+          (c .before .before .before .before .before .before .before .feed-pairs .result .now)
+          (c .before .before .loop .k) (c .before .before .loop .best) (c .lower-feeding .result)
+          (ap₂ _+_ (c .before .before .before .before .before .unit-count .ensures .0)
+          (c .before .before .before .before .output-count .ensures .0))
+          (c .before .before .before .before .before .before .before .feed-pairs .ensures)
+          (omega (
+            arith,
+            c .before .loop-test .taken,
+            c .before .before .before .before .before .before .feed-count .ensures .0,
+          )) (c .lower-feeding .ensures) (c .before .before .loop .inv .1),
+    )
 
 returns : tie.Need-returns Inv-loop μ-loop
-returns c = let a = c .before .before .before .before .before .before .before .before .args in let p = c .before .before .before .before .before .before .before .before .pre in best-all (a .table .now) (p .0) (a .output) (a .marks .now) (c .before .loop .k) (c .before .loop .best) (omega (arith, c .before .loop .inv .0, c .loop-test .left, c .before .before .before .before .before .feed-count .ensures .0)) (c .before .loop .inv .1)
+returns c =
+    let a = c .before .before .before .before .before .before .before .before .args in
+    let p = c .before .before .before .before .before .before .before .before .pre in
+    best-all (a .table .now) (p .0) (a .output) (a .marks .now) (c .before .loop .k) (c .before .loop .best)
+    (omega (
+      arith,
+      c .before .loop .inv .0,
+      c .loop-test .left,
+      c .before .before .before .before .before .feed-count .ensures .0,
+    )) (c .before .loop .inv .1)
 
 pub first-feeding-spec : {M : Type 1} → statement M
 first-feeding-spec =

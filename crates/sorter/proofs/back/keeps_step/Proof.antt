@@ -9,13 +9,17 @@ shared-slice-read-if1 : tie.Need-shared-slice-read-if1
 shared-slice-read-if1 c = search needs
 
 returns : tie.Need-returns
-returns c = let a = c .before .before .args in keeps-other (a .owners .now) (a .kinds .now) (a .unit) (a .x) _ (c .if1 .taken)
+returns c =
+    let a = c .before .before .args in
+    keeps-other (a .owners .now) (a .kinds .now) (a .unit) (a .x) _ (c .if1 .taken)
 
 shared-slice-read-if2 : tie.Need-shared-slice-read-if2
 shared-slice-read-if2 c = search needs
 
 returns-2 : tie.Need-returns-2
-returns-2 c = let a = c .before .before .before .before .args in keeps-delayed (a .owners .now) (a .kinds .now) (a .unit) (a .x) _ (c .if2 .taken)
+returns-2 c =
+    let a = c .before .before .before .before .args in
+    keeps-delayed (a .owners .now) (a .kinds .now) (a .unit) (a .x) _ (c .if2 .taken)
 
 add-result : tie.Need-add-result
 add-result c = search needs
@@ -24,7 +28,10 @@ element-copy-out-result : tie.Need-element-copy-out-result
 element-copy-out-result c = search needs
 
 returns-3 : tie.Need-returns-3
-returns-3 c = let a = c .before .before .before .before .before .args in keeps-mark (a .owners .now) (a .kinds .now) (a .unit) (a .x) _ _ (c .before .before .before .if1 .left) (c .before .if2 .left) refl
+returns-3 c =
+    let a = c .before .before .before .before .before .args in
+    keeps-mark (a .owners .now) (a .kinds .now) (a .unit) (a .x) _ _ (c .before .before .before .if1 .left)
+    (c .before .if2 .left) refl
 
 pub keeps-step-spec : {M : Type 1} → statement M
 keeps-step-spec =

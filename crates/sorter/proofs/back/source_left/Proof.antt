@@ -23,10 +23,27 @@ add-get : tie.Need-add-get
 add-get c = search needs
 
 element-copy-out-if1 : tie.Need-element-copy-out-if1
-element-copy-out-if1 c = let a = c .before .before .before .before .args in let p = c .before .before .before .before .pre in omega (arith, c .before .before .unit-count .ensures .0, c .byte .ensures .0 ∙ ap (λ l. getD l (a .input) 0) (c .before .input-sources .ensures), p .0 .wired .sourced (a .input) (p .1), few-calls (a .table .now) (p .0))
+element-copy-out-if1 c =
+    let a = c .before .before .before .before .args in
+    let p = c .before .before .before .before .pre in
+    omega (
+      arith,
+      c .before .before .unit-count .ensures .0,
+      c .byte .ensures .0 ∙ ap (λ l. getD l (a .input) 0) (c .before .input-sources .ensures),
+      p .0 .wired .sourced (a .input) (p .1),
+      few-calls (a .table .now) (p .0),
+    )
 
 returns : tie.Need-returns
-returns c = let a = c .before .before .before .before .before .before .args in let e = ap₂ _+_ (c .before .before .before .before .unit-count .ensures .0) (c .before .before .byte .ensures .0 ∙ ap (λ l. getD l (a .input) 0) (c .before .before .before .input-sources .ensures)) in e ∙ source-stays (shapeOf (a .table .now)) (a .marks .now) (a .input) (subst (λ n. _≡_ {A = ℕ} (getD (a .marks .now) n 0) 0) e (c .if1 .taken))
+returns c =
+    let a = c .before .before .before .before .before .before .args in
+    let e =
+    ap₂ _+_ (c .before .before .before .before .unit-count .ensures .0)
+    (c .before .before .byte .ensures .0
+    ∙ ap (λ l. getD l (a .input) 0) (c .before .before .before .input-sources .ensures)) in
+    e
+    ∙ source-stays (shapeOf (a .table .now)) (a .marks .now) (a .input)
+    (subst (λ n. _≡_ {A = ℕ} (getD (a .marks .now) n 0) 0) e (c .if1 .taken))
 
 call-count-requires : tie.Need-call-count-requires
 call-count-requires c κs = search needs

@@ -34,31 +34,39 @@ returns-2 : tie.Need-returns-2
 returns-2 c =
     let t = c .before .before .before .before .before .before .before .before .before .args .table .now in
     let out = c .before .before .before .before .before .before .before .before .before .args .out .now in
-    let z = not-refused t _ (c .before .before .before .before .before .place-all .ensures .0) (c .before .before .if1 .left) in
+    let z =
+    not-refused t _ (c .before .before .before .before .before .place-all .ensures .0)
+    (c .before .before .if1 .left) in
     let n = c .before .call-count .ensures in
     clauses t out _ _ _ (order-short t (length out) _ z n (c .if2 .taken)) refl refl
 
 array-share-prefix-calls : tie.Need-array-share-prefix-calls
 array-share-prefix-calls c =
-    let t = c .before .before .before .before .before .before .before .before .before .before .args .table .now in
+    let t =
+    c .before .before .before .before .before .before .before .before .before .before .args .table .now in
     let p = c .before .before .before .before .before .before .place-all .ensures in
     let z = not-refused t _ (p .0) (c .before .before .before .if1 .left) in
     calls-room t _ _ _ z (c .before .before .call-count .ensures) refl (p .1)
 
 slice-aggregate-write-turned : tie.Need-slice-aggregate-write-turned
 slice-aggregate-write-turned c =
-    let t = c .before .before .before .before .before .before .before .before .before .before .before .args .table .now in
+    let t =
+    c .before .before .before .before .before .before .before .before .before .before .before .args .table .now in
     let p = c .before .before .before .before .before .before .before .place-all .ensures in
     let z = not-refused t _ (p .0) (c .before .before .before .before .if1 .left) in
     sym (length-take-le _ _ (calls-room t _ _ _ z (c .before .before .before .call-count .ensures) refl (p .1)))
 
 write-turned-requires : tie.Need-write-turned-requires
 write-turned-requires c κs =
-    let t = c .before .before .before .before .before .before .before .before .before .before .before .before .args .table .now in
+    let t =
+    c .before .before .before .before .before .before .before .before .before .before .before .before .args .table .now in
     let p = c .before .before .before .before .before .before .before .before .place-all .ensures in
     let z = not-refused t _ (p .0) (c .before .before .before .before .before .if1 .left) in
     let n = c .before .before .before .before .call-count .ensures in
-    let l = length-take-le (c .before .before .before .before .call-count .result) (c .before .before .before .before .before .before .before .before .place-all .last .1 .0) (calls-room t _ _ _ z n refl (p .1)) in
+    let l =
+    length-take-le (c .before .before .before .before .call-count .result)
+    (c .before .before .before .before .before .before .before .before .place-all .last .1 .0)
+    (calls-room t _ _ _ z n refl (p .1)) in
     (omega (arith, l, n, passed-sound t z .counted .units-some), omega (arith, l, c .before .before .before .if2 .left))
 
 same-length : tie.Need-same-length
@@ -66,10 +74,14 @@ same-length c = search needs
 
 returns-3 : tie.Need-returns-3
 returns-3 c =
-    let t = c .before .before .before .before .before .before .before .before .before .before .before .before .before .before .before .args .table .now in
-    let out = c .before .before .before .before .before .before .before .before .before .before .before .before .before .before .before .args .out .now in
-    let p = c .before .before .before .before .before .before .before .before .before .before .before .place-all .ensures in
-    let z = not-refused t _ (p .0) (c .before .before .before .before .before .before .before .before .if1 .left) in
+    let t =
+    c .before .before .before .before .before .before .before .before .before .before .before .before .before .before .before .args .table .now in
+    let out =
+    c .before .before .before .before .before .before .before .before .before .before .before .before .before .before .before .args .out .now in
+    let p =
+    c .before .before .before .before .before .before .before .before .before .before .before .place-all .ensures in
+    let z =
+    not-refused t _ (p .0) (c .before .before .before .before .before .before .before .before .if1 .left) in
     let n = c .before .before .before .before .before .before .before .call-count .ensures in
     let q = sym (place-is t _ (p .0) z) ∙ c .before .before .before .before .before .if3 .taken in
     clauses t out _ _ _ (order-all t (length out) _ z n (c .before .before .before .before .before .before .if2 .left) q) refl
@@ -78,14 +90,16 @@ returns-3 c =
 
 slice-aggregate-show-cycle : tie.Need-slice-aggregate-show-cycle
 slice-aggregate-show-cycle c =
-    let t = c .before .before .before .before .before .before .before .before .before .before .before .args .table .now in
+    let t =
+    c .before .before .before .before .before .before .before .before .before .before .before .args .table .now in
     let p = c .before .before .before .before .before .before .before .place-all .ensures in
     let z = not-refused t _ (p .0) (c .before .before .before .before .if1 .left) in
     sym (calls-long t _ _ z refl (p .1))
 
 show-cycle-requires : tie.Need-show-cycle-requires
 show-cycle-requires c κs =
-    let t = c .before .before .before .before .before .before .before .before .before .before .before .before .args .table .now in
+    let t =
+    c .before .before .before .before .before .before .before .before .before .before .before .before .args .table .now in
     let p = c .before .before .before .before .before .before .before .before .place-all .ensures in
     let z = not-refused t _ (p .0) (c .before .before .before .before .before .if1 .left) in
     let k = place-is t _ (p .0) z in
@@ -106,10 +120,15 @@ same-length-2 c = search needs
 
 returns-4 : tie.Need-returns-4
 returns-4 c =
-    let t = c .before .before .before .before .before .before .before .before .before .before .before .before .before .before .before .before .before .args .table .now in
-    let out = c .before .before .before .before .before .before .before .before .before .before .before .before .before .before .before .before .before .args .out .now in
-    let p = c .before .before .before .before .before .before .before .before .before .before .before .before .before .place-all .ensures in
-    let z = not-refused t _ (p .0) (c .before .before .before .before .before .before .before .before .before .before .if1 .left) in
+    let t =
+    c .before .before .before .before .before .before .before .before .before .before .before .before .before .before .before .before .before .args .table .now in
+    let out =
+    c .before .before .before .before .before .before .before .before .before .before .before .before .before .before .before .before .before .args .out .now in
+    let p =
+    c .before .before .before .before .before .before .before .before .before .before .before .before .before .place-all .ensures in
+    let z =
+    not-refused t _ (p .0)
+    (c .before .before .before .before .before .before .before .before .before .before .if1 .left) in
     let n = c .before .before .before .before .before .before .before .before .before .call-count .ensures in
     let shown = c .before .before .before .before .show-cycle .ensures in
     clauses t out _ _ _
@@ -121,10 +140,15 @@ same-length-3 c = search needs
 
 returns-5 : tie.Need-returns-5
 returns-5 c =
-    let t = c .before .before .before .before .before .before .before .before .before .before .before .before .before .before .before .before .before .args .table .now in
-    let out = c .before .before .before .before .before .before .before .before .before .before .before .before .before .before .before .before .before .args .out .now in
-    let p = c .before .before .before .before .before .before .before .before .before .before .before .before .before .place-all .ensures in
-    let z = not-refused t _ (p .0) (c .before .before .before .before .before .before .before .before .before .before .if1 .left) in
+    let t =
+    c .before .before .before .before .before .before .before .before .before .before .before .before .before .before .before .before .before .args .table .now in
+    let out =
+    c .before .before .before .before .before .before .before .before .before .before .before .before .before .before .before .before .before .args .out .now in
+    let p =
+    c .before .before .before .before .before .before .before .before .before .before .before .before .before .place-all .ensures in
+    let z =
+    not-refused t _ (p .0)
+    (c .before .before .before .before .before .before .before .before .before .before .if1 .left) in
     let n = c .before .before .before .before .before .before .before .before .before .call-count .ensures in
     let shown = c .before .before .before .before .show-cycle .ensures in
     clauses t out _ _ _

@@ -11,10 +11,17 @@ place-of-requires : tie.Need-place-of-requires
 place-of-requires c κs = search needs
 
 add-length : tie.Need-add-length
-add-length c = let a = c .before .before .before .args in let p = c .before .before .before .pre in let m = met-fits (a .seen .now) (a .call) (a .count) (p .0) (p .1 .0) _ (c .place-of .ensures) in search needs
+add-length c =
+    let a = c .before .before .before .args in
+    let p = c .before .before .before .pre in
+    let m = met-fits (a .seen .now) (a .call) (a .count) (p .0) (p .1 .0) _ (c .place-of .ensures) in
+    search needs
 
 slice-aggregate-cycle : tie.Need-slice-aggregate-cycle
-slice-aggregate-cycle c = let a = c .before .before .before .before .args in let p = c .before .before .before .before .pre in sym (met-long (a .seen .now) (a .call) (a .count) (p .0) (p .1 .0) _ (c .before .place-of .ensures))
+slice-aggregate-cycle c =
+    let a = c .before .before .before .before .args in
+    let p = c .before .before .before .before .pre in
+    sym (met-long (a .seen .now) (a .call) (a .count) (p .0) (p .1 .0) _ (c .before .place-of .ensures))
 
 lowest-of-requires : tie.Need-lowest-of-requires
 lowest-of-requires c κs = search needs
@@ -23,13 +30,40 @@ place-of-requires-2 : tie.Need-place-of-requires-2
 place-of-requires-2 c κs = search needs
 
 write-turned-requires : tie.Need-write-turned-requires
-write-turned-requires c κs = let a = c .before .before .before .before .before .before .before .args in let p = c .before .before .before .before .before .before .before .pre in (first-in (a .seen .now) (a .call) (a .count) (p .0) (p .1 .0) _ (c .before .before .before .before .place-of .ensures) _ _ (c .before .before .lowest-of .ensures) (c .before .place-of2 .ensures), omega (arith, met-long (a .seen .now) (a .call) (a .count) (p .0) (p .1 .0) _ (c .before .before .before .before .place-of .ensures), met-fits (a .seen .now) (a .call) (a .count) (p .0) (p .1 .0) _ (c .before .before .before .before .place-of .ensures), p .1 .1))
+write-turned-requires c κs =
+    let a = c .before .before .before .before .before .before .before .args in
+    let p = c .before .before .before .before .before .before .before .pre in (
+      first-in (a .seen .now) (a .call) (a .count) (p .0) (p .1 .0) _
+          (c .before .before .before .before .place-of .ensures) _ _ (c .before .before .lowest-of .ensures)
+          (c .before .place-of2 .ensures),
+      omega (
+        arith,
+        met-long (a .seen .now) (a .call) (a .count) (p .0) (p .1 .0) _
+            (c .before .before .before .before .place-of .ensures),
+        met-fits (a .seen .now) (a .call) (a .count) (p .0) (p .1 .0) _
+            (c .before .before .before .before .place-of .ensures),
+        p .1 .1,
+      ),
+    )
 
 same-length : tie.Need-same-length
 same-length c = search needs
 
 returns : tie.Need-returns
-returns c = let a = c .before .before .before .before .before .before .before .before .before .before .args in let p = c .before .before .before .before .before .before .before .before .before .before .pre in (turned-long (a .seen .now) (a .call) (a .count) (p .0) (p .1 .0) _ (c .before .before .before .before .before .before .before .place-of .ensures) _ _ (c .before .before .before .before .before .lowest-of .ensures) (c .before .before .before .before .place-of2 .ensures), c .before .before .write-turned .ensures ∙ ap (λ l. fronted l (a .out .now)) (turned-is (a .seen .now) (a .call) (a .count) (p .0) (p .1 .0) _ (c .before .before .before .before .before .before .before .place-of .ensures) _ _ (c .before .before .before .before .before .lowest-of .ensures) (c .before .before .before .before .place-of2 .ensures)))
+returns c =
+    let a = c .before .before .before .before .before .before .before .before .before .before .args in
+    let p = c .before .before .before .before .before .before .before .before .before .before .pre in (
+      turned-long (a .seen .now) (a .call) (a .count) (p .0) (p .1 .0) _
+          (c .before .before .before .before .before .before .before .place-of .ensures) _ _
+          (c .before .before .before .before .before .lowest-of .ensures)
+          (c .before .before .before .before .place-of2 .ensures),
+      c .before .before .write-turned .ensures
+          ∙ ap (λ l. fronted l (a .out .now))
+          (turned-is (a .seen .now) (a .call) (a .count) (p .0) (p .1 .0) _
+          (c .before .before .before .before .before .before .before .place-of .ensures) _ _
+          (c .before .before .before .before .before .lowest-of .ensures)
+          (c .before .before .before .before .place-of2 .ensures)),
+    )
 
 pub write-met-spec : {M : Type 1} → statement M
 write-met-spec =

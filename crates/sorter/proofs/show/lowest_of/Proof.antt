@@ -29,10 +29,25 @@ loop-less : tie.Need-loop-less Inv-loop μ-loop
 loop-less c = search needs
 
 loop-again : tie.Need-loop-again Inv-loop μ-loop
-loop-again c = let b = c .before .before .before .before .args .bytes .now in let n = c .before .before .before .before .args .count in (search needs, ⊎-elim (λ w. rw (w .2) (low-lower b n (c .before .before .before .loop .i) (c .before .before .before .loop .low) (c .before .before .loop-test .taken) (w .0 .taken) (c .before .before .before .loop .inv .1))) (λ w. rw (w .1) (low-stays b n (c .before .before .before .loop .i) (c .before .before .before .loop .low) (w .0 .left) (c .before .before .before .loop .inv .1))) (c .if1 .came))
+loop-again c =
+    let b = c .before .before .before .before .args .bytes .now in
+    let n = c .before .before .before .before .args .count in (
+      search needs,
+      ⊎-elim
+          (λ w.
+          rw (w .2)
+          (low-lower b n (c .before .before .before .loop .i) (c .before .before .before .loop .low)
+          (c .before .before .loop-test .taken) (w .0 .taken) (c .before .before .before .loop .inv .1)))
+          (λ w.
+          rw (w .1)
+          (low-stays b n (c .before .before .before .loop .i) (c .before .before .before .loop .low) (w .0 .left)
+          (c .before .before .before .loop .inv .1))) (c .if1 .came),
+    )
 
 returns : tie.Need-returns Inv-loop μ-loop
-returns c = low-ends (c .before .before .args .bytes .now) (c .before .before .args .count) (c .before .loop .i) (c .before .loop .low) (c .loop-test .left) (c .before .loop .inv .1)
+returns c =
+    low-ends (c .before .before .args .bytes .now) (c .before .before .args .count) (c .before .loop .i)
+    (c .before .loop .low) (c .loop-test .left) (c .before .loop .inv .1)
 
 pub lowest-of-spec : {M : Type 1} → statement M
 lowest-of-spec =

@@ -18,13 +18,32 @@ loop-holds : tie.Need-loop-holds Inv-loop μ-loop
 loop-holds c = turning-starts (c .args .bytes .now) (c .args .first) (c .args .out .now) (c .pre .0)
 
 shared-slice-read-out : tie.Need-shared-slice-read-out Inv-loop μ-loop
-shared-slice-read-out c = turning-on (c .before .before .before .before .args .bytes .now) (c .before .before .before .before .args .first) (c .before .before .before .before .args .out .now) (c .before .before .before .loop .out) (c .before .before .before .loop .from) (c .before .if1 .from) (c .before .before .before .loop .i) (c .before .before .before .before .pre .0) (c .before .before .before .before .pre .1) (c .before .before .loop-test .taken) (⊎-elim (λ w. inl (w .0 .taken, w .1)) (λ w. inr (w .0 .left, w .1)) (c .before .if1 .came)) (c .before .before .before .loop .inv) .0
+shared-slice-read-out c =
+    turning-on (c .before .before .before .before .args .bytes .now)
+    (c .before .before .before .before .args .first) (c .before .before .before .before .args .out .now)
+    (c .before .before .before .loop .out) (c .before .before .before .loop .from) (c .before .if1 .from)
+    (c .before .before .before .loop .i) (c .before .before .before .before .pre .0)
+    (c .before .before .before .before .pre .1) (c .before .before .loop-test .taken)
+    (⊎-elim (λ w. inl (w .0 .taken, w .1)) (λ w. inr (w .0 .left, w .1)) (c .before .if1 .came))
+    (c .before .before .before .loop .inv) .0
 
 slice-write-out : tie.Need-slice-write-out Inv-loop μ-loop
-slice-write-out c = omega (arith, c .before .before .before .loop .inv .front .long, c .before .before .before .before .pre .1)
+slice-write-out c =
+    omega (arith, c .before .before .before .loop .inv .front .long, c .before .before .before .before .pre .1)
 
 add-from : tie.Need-add-from Inv-loop μ-loop
-add-from c = let z = turning-on (c .before .before .before .before .before .args .bytes .now) (c .before .before .before .before .before .args .first) (c .before .before .before .before .before .args .out .now) (c .before .before .before .before .loop .out) (c .before .before .before .before .loop .from) (c .before .before .if1 .from) (c .before .before .before .before .loop .i) (c .before .before .before .before .before .pre .0) (c .before .before .before .before .before .pre .1) (c .before .before .before .loop-test .taken) (⊎-elim (λ w. inl (w .0 .taken, w .1)) (λ w. inr (w .0 .left, w .1)) (c .before .before .if1 .came)) (c .before .before .before .before .loop .inv) .0 in search needs
+add-from c =
+    let z =
+    turning-on (c .before .before .before .before .before .args .bytes .now)
+    (c .before .before .before .before .before .args .first)
+    (c .before .before .before .before .before .args .out .now)
+    (c .before .before .before .before .loop .out) (c .before .before .before .before .loop .from)
+    (c .before .before .if1 .from) (c .before .before .before .before .loop .i)
+    (c .before .before .before .before .before .pre .0) (c .before .before .before .before .before .pre .1)
+    (c .before .before .before .loop-test .taken)
+    (⊎-elim (λ w. inl (w .0 .taken, w .1)) (λ w. inr (w .0 .left, w .1)) (c .before .before .if1 .came))
+    (c .before .before .before .before .loop .inv) .0 in
+    search needs
 
 add-i : tie.Need-add-i Inv-loop μ-loop
 add-i c = search needs
@@ -33,13 +52,24 @@ loop-less : tie.Need-loop-less Inv-loop μ-loop
 loop-less c = search needs
 
 loop-again : tie.Need-loop-again Inv-loop μ-loop
-loop-again c = turning-on (c .before .before .before .before .before .args .bytes .now) (c .before .before .before .before .before .args .first) (c .before .before .before .before .before .args .out .now) (c .before .before .before .before .loop .out) (c .before .before .before .before .loop .from) (c .before .before .if1 .from) (c .before .before .before .before .loop .i) (c .before .before .before .before .before .pre .0) (c .before .before .before .before .before .pre .1) (c .before .before .before .loop-test .taken) (⊎-elim (λ w. inl (w .0 .taken, w .1)) (λ w. inr (w .0 .left, w .1)) (c .before .before .if1 .came)) (c .before .before .before .before .loop .inv) .1
+loop-again c =
+    turning-on (c .before .before .before .before .before .args .bytes .now)
+    (c .before .before .before .before .before .args .first)
+    (c .before .before .before .before .before .args .out .now) (c .before .before .before .before .loop .out)
+    (c .before .before .before .before .loop .from) (c .before .before .if1 .from)
+    (c .before .before .before .before .loop .i) (c .before .before .before .before .before .pre .0)
+    (c .before .before .before .before .before .pre .1) (c .before .before .before .loop-test .taken)
+    (⊎-elim (λ w. inl (w .0 .taken, w .1)) (λ w. inr (w .0 .left, w .1)) (c .before .before .if1 .came))
+    (c .before .before .before .before .loop .inv) .1
 
 same-length : tie.Need-same-length Inv-loop μ-loop
 same-length c = c .before .loop .inv .front .long
 
 returns : tie.Need-returns Inv-loop μ-loop
-returns c = turning-ends (c .before .before .args .bytes .now) (c .before .before .args .first) (c .before .before .args .out .now) (c .before .loop .out) (c .before .loop .from) (c .before .loop .i) (c .before .before .pre .0) (c .loop-test .left) (c .before .loop .inv)
+returns c =
+    turning-ends (c .before .before .args .bytes .now) (c .before .before .args .first)
+    (c .before .before .args .out .now) (c .before .loop .out) (c .before .loop .from) (c .before .loop .i)
+    (c .before .before .pre .0) (c .loop-test .left) (c .before .loop .inv)
 
 pub write-turned-spec : {M : Type 1} → statement M
 write-turned-spec =

@@ -11,7 +11,8 @@ use Rattle.sorter.specs.Marks.{marked}
 use Rattle.sorter.proofs.Trails.{marked-none, mark-on, mark-all}
 
 abbrev Inv-loop : tie.InvT-loop
-Inv-loop calls marks₀ i₀ marks i = (i ≤ length calls) × (length marks ≡ 224) × (marked marks ≡ among (take i calls))
+Inv-loop calls marks₀ i₀ marks i =
+    (i ≤ length calls) × (length marks ≡ 224) × (marked marks ≡ among (take i calls))
 
 abbrev μ-loop : tie.MeasureT-loop
 μ-loop calls marks₀ i₀ marks i = length calls - i
@@ -23,10 +24,13 @@ shared-slice-read-marks : tie.Need-shared-slice-read-marks Inv-loop μ-loop
 shared-slice-read-marks c = search needs
 
 cast-marks : tie.Need-cast-marks Inv-loop μ-loop
-cast-marks c = record { fits = omega (arith, c .before .before .before .pre .1 .1 (c .before .before .loop .i) (c .before .loop-test .taken)) }
+cast-marks c =
+    record
+    { fits = omega (arith, c .before .before .before .pre .1 .1 (c .before .before .loop .i) (c .before .loop-test .taken)) }
 
 element-write-marks : tie.Need-element-write-marks Inv-loop μ-loop
-element-write-marks c = c .before .before .before .pre .1 .1 (c .before .before .loop .i) (c .before .loop-test .taken)
+element-write-marks c =
+    c .before .before .before .pre .1 .1 (c .before .before .loop .i) (c .before .loop-test .taken)
 
 add-i : tie.Need-add-i Inv-loop μ-loop
 add-i c = search needs
@@ -35,10 +39,24 @@ loop-less : tie.Need-loop-less Inv-loop μ-loop
 loop-less c = search needs
 
 loop-again : tie.Need-loop-again Inv-loop μ-loop
-loop-again c = (search needs, length-set (c .before .before .loop .marks) (getD (c .before .before .before .args .calls .now) (c .before .before .loop .i) 0) 1 ∙ c .before .before .loop .inv .1, mark-on (c .before .before .before .args .calls .now) (c .before .before .loop .marks) (c .before .before .loop .i) (c .before .loop-test .taken) (omega (arith, c .before .before .loop .inv .1, c .before .before .before .pre .1 .1 (c .before .before .loop .i) (c .before .loop-test .taken))) (c .before .before .loop .inv .2))
+loop-again c = (
+  search needs,
+  length-set (c .before .before .loop .marks)
+      (getD (c .before .before .before .args .calls .now) (c .before .before .loop .i) 0) 1
+      ∙ c .before .before .loop .inv .1,
+  mark-on (c .before .before .before .args .calls .now) (c .before .before .loop .marks)
+      (c .before .before .loop .i) (c .before .loop-test .taken)
+      (omega (
+        arith,
+        c .before .before .loop .inv .1,
+        c .before .before .before .pre .1 .1 (c .before .before .loop .i) (c .before .loop-test .taken),
+      )) (c .before .before .loop .inv .2),
+)
 
 returns : tie.Need-returns Inv-loop μ-loop
-returns c = mark-all (c .before .before .args .calls .now) (c .before .loop .marks) (c .before .loop .i) (c .loop-test .left) (c .before .loop .inv .2)
+returns c =
+    mark-all (c .before .before .args .calls .now) (c .before .loop .marks) (c .before .loop .i)
+    (c .loop-test .left) (c .before .loop .inv .2)
 
 pub mark-spec : {M : Type 1} → statement M
 mark-spec =

@@ -35,7 +35,8 @@ is-pair-requires : tie.Need-is-pair-requires Inv-loop μ-loop
 is-pair-requires c κs = search needs
 
 returns : tie.Need-returns Inv-loop μ-loop
-returns c = again-here _ _ _ (c .before .before .loop-test .taken) (says (c .before .is-pair .ensures) (c .if1 .taken))
+returns c =
+    again-here _ _ _ (c .before .before .loop-test .taken) (says (c .before .is-pair .ensures) (c .if1 .taken))
 
 add-j : tie.Need-add-j Inv-loop μ-loop
 add-j c = search needs
@@ -44,7 +45,11 @@ loop-less : tie.Need-loop-less Inv-loop μ-loop
 loop-less c = search needs
 
 loop-again : tie.Need-loop-again Inv-loop μ-loop
-loop-again c = (search needs, below-more _ _ (c .before .before .before .loop .inv .1) (denies (c .before .is-pair .ensures) (c .if1 .left)))
+loop-again c = (
+  search needs,
+  below-more _ _ (c .before .before .before .loop .inv .1)
+      (denies (c .before .is-pair .ensures) (c .if1 .left)),
+)
 
 returns-2 : tie.Need-returns-2 Inv-loop μ-loop
 returns-2 c = again-not _ _ _ (c .loop-test .left) (c .before .loop .inv .1)

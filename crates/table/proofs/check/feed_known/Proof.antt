@@ -19,10 +19,13 @@ byte-requires-2 : tie.Need-byte-requires-2
 byte-requires-2 c κs = search needs
 
 returns : tie.Need-returns
-returns c = known-input _ _ _ _ _ _ (c .before .before .byte .ensures .0) (c .before .byte2 .ensures .0) (c .if1 .taken)
+returns c =
+    known-input _ _ _ _ _ _ (c .before .before .byte .ensures .0) (c .before .byte2 .ensures .0) (c .if1 .taken)
 
 returns-2 : tie.Need-returns-2
-returns-2 c = known-output _ _ _ _ _ _ (c .before .before .before .byte .ensures .0) (c .before .before .byte2 .ensures .0) (c .before .if1 .left) (c .if2 .taken)
+returns-2 c =
+    known-output _ _ _ _ _ _ (c .before .before .before .byte .ensures .0)
+    (c .before .before .byte2 .ensures .0) (c .before .if1 .left) (c .if2 .taken)
 
 shared-slice-read-result : tie.Need-shared-slice-read-result
 shared-slice-read-result c = search needs
@@ -31,7 +34,10 @@ shared-slice-read-result-2 : tie.Need-shared-slice-read-result-2
 shared-slice-read-result-2 c = search needs
 
 returns-3 : tie.Need-returns-3
-returns-3 c = known-owners _ _ _ _ _ _ (c .before .before .before .before .before .byte .ensures .0) (c .before .before .before .before .byte2 .ensures .0) (c .before .before .before .if1 .left) (c .before .before .if2 .left)
+returns-3 c =
+    known-owners _ _ _ _ _ _ (c .before .before .before .before .before .byte .ensures .0)
+    (c .before .before .before .before .byte2 .ensures .0) (c .before .before .before .if1 .left)
+    (c .before .before .if2 .left)
 
 pub feed-known-spec : {M : Type 1} → statement M
 feed-known-spec =

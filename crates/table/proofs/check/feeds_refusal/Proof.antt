@@ -20,13 +20,22 @@ feed-known-requires : tie.Need-feed-known-requires Inv-loop μ-loop
 feed-known-requires c κs = search needs
 
 returns : tie.Need-returns Inv-loop μ-loop
-returns c = sym (c .before .before .before .loop .inv .1 ∙ feeds-unknown _ _ _ _ _ (c .before .before .loop-test .taken) (sym (c .before .feed-known .ensures) ∙ not-true _ (c .if1 .taken)))
+returns c =
+    sym
+    (c .before .before .before .loop .inv .1
+    ∙ feeds-unknown _ _ _ _ _ (c .before .before .loop-test .taken)
+    (sym (c .before .feed-known .ensures) ∙ not-true _ (c .if1 .taken)))
 
 feed-again-requires : tie.Need-feed-again-requires Inv-loop μ-loop
 feed-again-requires c κs = search needs
 
 returns-2 : tie.Need-returns-2 Inv-loop μ-loop
-returns-2 c = sym (c .before .before .before .before .before .loop .inv .1 ∙ feeds-again _ _ _ _ _ (c .before .before .before .before .loop-test .taken) (sym (c .before .before .before .feed-known .ensures) ∙ not-false _ (c .before .before .if1 .left)) (sym (c .before .feed-again .ensures) ∙ c .if2 .taken))
+returns-2 c =
+    sym
+    (c .before .before .before .before .before .loop .inv .1
+    ∙ feeds-again _ _ _ _ _ (c .before .before .before .before .loop-test .taken)
+    (sym (c .before .before .before .feed-known .ensures) ∙ not-false _ (c .before .before .if1 .left))
+    (sym (c .before .feed-again .ensures) ∙ c .if2 .taken))
 
 add-k : tie.Need-add-k Inv-loop μ-loop
 add-k c = search needs
@@ -35,7 +44,13 @@ loop-less : tie.Need-loop-less Inv-loop μ-loop
 loop-less c = search needs
 
 loop-again : tie.Need-loop-again Inv-loop μ-loop
-loop-again c = (search needs, c .before .before .before .before .before .loop .inv .1 ∙ feeds-on _ _ _ _ _ (c .before .before .before .before .loop-test .taken) (sym (c .before .before .before .feed-known .ensures) ∙ not-false _ (c .before .before .if1 .left)) (sym (c .before .feed-again .ensures) ∙ c .if2 .left))
+loop-again c = (
+  search needs,
+  c .before .before .before .before .before .loop .inv .1
+      ∙ feeds-on _ _ _ _ _ (c .before .before .before .before .loop-test .taken)
+      (sym (c .before .before .before .feed-known .ensures) ∙ not-false _ (c .before .before .if1 .left))
+      (sym (c .before .feed-again .ensures) ∙ c .if2 .left),
+)
 
 returns-3 : tie.Need-returns-3 Inv-loop μ-loop
 returns-3 c = sym (c .before .loop .inv .1 ∙ feeds-end _ _ _ _ _ (c .loop-test .left))

@@ -28,7 +28,14 @@ counts-in-requires c κs = search needs
 
 returns-2 : tie.Need-returns-2
 unfolding refusal
-returns-2 c = sym (else-goes _ _ _ (le-leb 4 _ (c .before .before .before .before .before .before .if1 .left)) ∙ else-stops _ _ _ (counts-same (c .before .counts-in .ensures) (c .before .before .unit-count .ensures .0) (c .before .before .before .before .before .output-count .ensures .0) (c .before .before .before .before .input-count .ensures .0) (c .before .before .before .feed-count .ensures .0) (not-true _ (c .if2 .taken))))
+returns-2 c =
+    sym
+    (else-goes _ _ _ (le-leb 4 _ (c .before .before .before .before .before .before .if1 .left))
+    ∙ else-stops _ _ _
+    (counts-same (c .before .counts-in .ensures) (c .before .before .unit-count .ensures .0)
+    (c .before .before .before .before .before .output-count .ensures .0)
+    (c .before .before .before .before .input-count .ensures .0)
+    (c .before .before .before .feed-count .ensures .0) (not-true _ (c .if2 .taken))))
 
 add-if3 : tie.Need-add-if3
 add-if3 c = search needs
@@ -47,14 +54,50 @@ add-if3-3 c = search needs
 
 returns-3 : tie.Need-returns-3
 unfolding refusal
-returns-3 c = sym (else-goes _ _ _ (le-leb 4 _ (c .before .before .before .before .before .before .before .if1 .left)) ∙ else-goes _ _ _ (counts-same (c .before .before .counts-in .ensures) (c .before .before .before .unit-count .ensures .0) (c .before .before .before .before .before .before .output-count .ensures .0) (c .before .before .before .before .before .input-count .ensures .0) (c .before .before .before .before .feed-count .ensures .0) (not-false _ (c .before .if2 .left))) ∙ else-stops _ _ _ (ne-eqb _ _ (λ e. c .if3 .taken (e ∙ sym (asked-same _ _ _ _ (c .before .before .before .before .before .before .output-count .ensures .0) (c .before .before .before .before .before .input-count .ensures .0) (c .before .before .before .before .feed-count .ensures .0))))))
+returns-3 c =
+    sym
+    (else-goes _ _ _ (le-leb 4 _ (c .before .before .before .before .before .before .before .if1 .left))
+    ∙ else-goes _ _ _
+    (counts-same (c .before .before .counts-in .ensures) (c .before .before .before .unit-count .ensures .0)
+    (c .before .before .before .before .before .before .output-count .ensures .0)
+    (c .before .before .before .before .before .input-count .ensures .0)
+    (c .before .before .before .before .feed-count .ensures .0) (not-false _ (c .before .if2 .left)))
+    ∙ else-stops _ _ _
+    (ne-eqb _ _
+    (λ e.
+    c .if3 .taken
+    (e
+    ∙ sym
+    (asked-same _ _ _ _ (c .before .before .before .before .before .before .output-count .ensures .0)
+    (c .before .before .before .before .before .input-count .ensures .0)
+    (c .before .before .before .before .feed-count .ensures .0))))))
 
 wiring-requires : tie.Need-wiring-requires
-wiring-requires c κs = c .if3 .left ∙ asked-same _ _ _ _ (c .before .before .before .before .before .before .output-count .ensures .0) (c .before .before .before .before .before .input-count .ensures .0) (c .before .before .before .before .feed-count .ensures .0)
+wiring-requires c κs =
+    c .if3 .left
+    ∙ asked-same _ _ _ _ (c .before .before .before .before .before .before .output-count .ensures .0)
+    (c .before .before .before .before .before .input-count .ensures .0)
+    (c .before .before .before .before .feed-count .ensures .0)
 
 returns-4 : tie.Need-returns-4
 unfolding refusal
-returns-4 c = c .wiring .ensures ∙ sym (else-goes _ _ _ (le-leb 4 _ (c .before .before .before .before .before .before .before .before .if1 .left)) ∙ else-goes _ _ _ (counts-same (c .before .before .before .counts-in .ensures) (c .before .before .before .before .unit-count .ensures .0) (c .before .before .before .before .before .before .before .output-count .ensures .0) (c .before .before .before .before .before .before .input-count .ensures .0) (c .before .before .before .before .before .feed-count .ensures .0) (not-false _ (c .before .before .if2 .left))) ∙ else-goes _ _ _ (eq-eqb _ _ (c .before .if3 .left ∙ asked-same _ _ _ _ (c .before .before .before .before .before .before .before .output-count .ensures .0) (c .before .before .before .before .before .before .input-count .ensures .0) (c .before .before .before .before .before .feed-count .ensures .0))))
+returns-4 c =
+    c .wiring .ensures
+    ∙ sym
+    (else-goes _ _ _ (le-leb 4 _ (c .before .before .before .before .before .before .before .before .if1 .left))
+    ∙ else-goes _ _ _
+    (counts-same (c .before .before .before .counts-in .ensures)
+    (c .before .before .before .before .unit-count .ensures .0)
+    (c .before .before .before .before .before .before .before .output-count .ensures .0)
+    (c .before .before .before .before .before .before .input-count .ensures .0)
+    (c .before .before .before .before .before .feed-count .ensures .0)
+    (not-false _ (c .before .before .if2 .left)))
+    ∙ else-goes _ _ _
+    (eq-eqb _ _
+    (c .before .if3 .left
+    ∙ asked-same _ _ _ _ (c .before .before .before .before .before .before .before .output-count .ensures .0)
+    (c .before .before .before .before .before .before .input-count .ensures .0)
+    (c .before .before .before .before .before .feed-count .ensures .0))))
 
 pub first-refusal-spec : {M : Type 1} → statement M
 first-refusal-spec =

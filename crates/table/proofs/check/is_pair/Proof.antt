@@ -22,7 +22,9 @@ shared-slice-read-result : tie.Need-shared-slice-read-result
 shared-slice-read-result c = search needs
 
 returns-2 : tie.Need-returns-2
-returns-2 c = pair-half (c .before .before .before .args .pairs .now) (c .before .before .before .args .j) (c .before .before .before .args .input) (c .before .before .before .args .output) (c .before .if1 .left)
+returns-2 c =
+    pair-half (c .before .before .before .args .pairs .now) (c .before .before .before .args .j)
+    (c .before .before .before .args .input) (c .before .before .before .args .output) (c .before .if1 .left)
 
 pub is-pair-spec : {M : Type 1} → statement M
 is-pair-spec =

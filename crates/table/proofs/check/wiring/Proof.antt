@@ -25,14 +25,28 @@ all-below-requires c κs = search needs
 
 returns : tie.Need-returns
 unfolding wiring
-returns c = sym (else-stops _ _ _ (held (c .before .all-below .ensures) (c .before .before .before .before .before .unit-count .ensures .0) (c .before .before .before .output-owners .ensures) (not-true _ (c .if1 .taken))))
+returns c =
+    sym
+    (else-stops _ _ _
+    (held (c .before .all-below .ensures) (c .before .before .before .before .before .unit-count .ensures .0)
+    (c .before .before .before .output-owners .ensures) (not-true _ (c .if1 .taken))))
 
 all-below-requires-2 : tie.Need-all-below-requires-2
 all-below-requires-2 c κs = search needs
 
 returns-2 : tie.Need-returns-2
 unfolding wiring
-returns-2 c = sym (else-goes _ _ _ (held (c .before .before .before .all-below .ensures) (c .before .before .before .before .before .before .before .unit-count .ensures .0) (c .before .before .before .before .before .output-owners .ensures) (not-false _ (c .before .before .if1 .left))) ∙ else-stops _ _ _ (held (c .before .all-below2 .ensures) (c .before .before .before .before .before .before .before .unit-count .ensures .0) (c .before .before .before .before .input-owners .ensures) (not-true _ (c .if2 .taken))))
+returns-2 c =
+    sym
+    (else-goes _ _ _
+    (held (c .before .before .before .all-below .ensures)
+    (c .before .before .before .before .before .before .before .unit-count .ensures .0)
+    (c .before .before .before .before .before .output-owners .ensures)
+    (not-false _ (c .before .before .if1 .left)))
+    ∙ else-stops _ _ _
+    (held (c .before .all-below2 .ensures)
+    (c .before .before .before .before .before .before .before .unit-count .ensures .0)
+    (c .before .before .before .before .input-owners .ensures) (not-true _ (c .if2 .taken))))
 
 input-kinds-requires : tie.Need-input-kinds-requires
 input-kinds-requires c κs = search needs
@@ -42,7 +56,21 @@ all-below-requires-3 c κs = search needs
 
 returns-3 : tie.Need-returns-3
 unfolding wiring
-returns-3 c = sym (else-goes _ _ _ (held (c .before .before .before .before .before .before .all-below .ensures) (c .before .before .before .before .before .before .before .before .before .before .unit-count .ensures .0) (c .before .before .before .before .before .before .before .before .output-owners .ensures) (not-false _ (c .before .before .before .before .before .if1 .left))) ∙ else-goes _ _ _ (held (c .before .before .before .before .all-below2 .ensures) (c .before .before .before .before .before .before .before .before .before .before .unit-count .ensures .0) (c .before .before .before .before .before .before .before .input-owners .ensures) (not-false _ (c .before .before .before .if2 .left))) ∙ else-stops _ _ _ (held (c .before .all-below3 .ensures) refl (c .before .before .input-kinds .ensures) (not-true _ (c .if3 .taken))))
+returns-3 c =
+    sym
+    (else-goes _ _ _
+    (held (c .before .before .before .before .before .before .all-below .ensures)
+    (c .before .before .before .before .before .before .before .before .before .before .unit-count .ensures .0)
+    (c .before .before .before .before .before .before .before .before .output-owners .ensures)
+    (not-false _ (c .before .before .before .before .before .if1 .left)))
+    ∙ else-goes _ _ _
+    (held (c .before .before .before .before .all-below2 .ensures)
+    (c .before .before .before .before .before .before .before .before .before .before .unit-count .ensures .0)
+    (c .before .before .before .before .before .before .before .input-owners .ensures)
+    (not-false _ (c .before .before .before .if2 .left)))
+    ∙ else-stops _ _ _
+    (held (c .before .all-below3 .ensures) refl (c .before .before .input-kinds .ensures)
+    (not-true _ (c .if3 .taken))))
 
 input-sources-requires : tie.Need-input-sources-requires
 input-sources-requires c κs = search needs
@@ -52,7 +80,26 @@ all-below-requires-4 c κs = search needs
 
 returns-4 : tie.Need-returns-4
 unfolding wiring
-returns-4 c = sym (else-goes _ _ _ (held (c .before .before .before .before .before .before .before .before .before .all-below .ensures) (c .before .before .before .before .before .before .before .before .before .before .before .before .before .unit-count .ensures .0) (c .before .before .before .before .before .before .before .before .before .before .before .output-owners .ensures) (not-false _ (c .before .before .before .before .before .before .before .before .if1 .left))) ∙ else-goes _ _ _ (held (c .before .before .before .before .before .before .before .all-below2 .ensures) (c .before .before .before .before .before .before .before .before .before .before .before .before .before .unit-count .ensures .0) (c .before .before .before .before .before .before .before .before .before .before .input-owners .ensures) (not-false _ (c .before .before .before .before .before .before .if2 .left))) ∙ else-goes _ _ _ (held (c .before .before .before .before .all-below3 .ensures) refl (c .before .before .before .before .before .input-kinds .ensures) (not-false _ (c .before .before .before .if3 .left))) ∙ else-stops _ _ _ (held (c .before .all-below4 .ensures) (c .before .before .before .before .before .before .before .before .before .before .before .before .output-count .ensures .0) (c .before .before .input-sources .ensures) (not-true _ (c .if4 .taken))))
+returns-4 c =
+    sym
+    (else-goes _ _ _
+    (held (c .before .before .before .before .before .before .before .before .before .all-below .ensures)
+    (c .before .before .before .before .before .before .before .before .before .before .before .before .before .unit-count .ensures .0)
+    (c .before .before .before .before .before .before .before .before .before .before .before .output-owners .ensures)
+    (not-false _ (c .before .before .before .before .before .before .before .before .if1 .left)))
+    ∙ else-goes _ _ _
+    (held (c .before .before .before .before .before .before .before .all-below2 .ensures)
+    (c .before .before .before .before .before .before .before .before .before .before .before .before .before .unit-count .ensures .0)
+    (c .before .before .before .before .before .before .before .before .before .before .input-owners .ensures)
+    (not-false _ (c .before .before .before .before .before .before .if2 .left)))
+    ∙ else-goes _ _ _
+    (held (c .before .before .before .before .all-below3 .ensures) refl
+    (c .before .before .before .before .before .input-kinds .ensures)
+    (not-false _ (c .before .before .before .if3 .left)))
+    ∙ else-stops _ _ _
+    (held (c .before .all-below4 .ensures)
+    (c .before .before .before .before .before .before .before .before .before .before .before .before .output-count .ensures .0)
+    (c .before .before .input-sources .ensures) (not-true _ (c .if4 .taken))))
 
 feed-pairs-requires : tie.Need-feed-pairs-requires
 feed-pairs-requires c κs = search needs
@@ -61,11 +108,42 @@ feed-count-requires : tie.Need-feed-count-requires
 feed-count-requires c κs = search needs
 
 feeds-refusal-requires : tie.Need-feeds-refusal-requires
-feeds-refusal-requires c κs = pairs-room _ _ _ _ (c .before .feed-pairs .ensures) (long-pairs _ (c .before .before .before .before .before .before .before .before .before .before .before .before .before .before .before .before .before .pre)) (c .feed-count .ensures .0)
+feeds-refusal-requires c κs =
+    pairs-room _ _ _ _ (c .before .feed-pairs .ensures)
+    (long-pairs _
+    (c .before .before .before .before .before .before .before .before .before .before .before .before .before .before .before .before .before .pre))
+    (c .feed-count .ensures .0)
 
 returns-5 : tie.Need-returns-5
 unfolding wiring
-returns-5 c = feeds-same (c .feeds-refusal .ensures) (c .before .before .before .before .before .before .before .before .before .before .before .before .before .before .output-owners .ensures) (c .before .before .before .before .before .before .before .before .before .before .before .before .before .input-owners .ensures) (c .before .before .feed-pairs .ensures) (c .before .feed-count .ensures .0) ∙ sym (else-goes _ _ _ (held (c .before .before .before .before .before .before .before .before .before .before .before .before .all-below .ensures) (c .before .before .before .before .before .before .before .before .before .before .before .before .before .before .before .before .unit-count .ensures .0) (c .before .before .before .before .before .before .before .before .before .before .before .before .before .before .output-owners .ensures) (not-false _ (c .before .before .before .before .before .before .before .before .before .before .before .if1 .left))) ∙ else-goes _ _ _ (held (c .before .before .before .before .before .before .before .before .before .before .all-below2 .ensures) (c .before .before .before .before .before .before .before .before .before .before .before .before .before .before .before .before .unit-count .ensures .0) (c .before .before .before .before .before .before .before .before .before .before .before .before .before .input-owners .ensures) (not-false _ (c .before .before .before .before .before .before .before .before .before .if2 .left))) ∙ else-goes _ _ _ (held (c .before .before .before .before .before .before .before .all-below3 .ensures) refl (c .before .before .before .before .before .before .before .before .input-kinds .ensures) (not-false _ (c .before .before .before .before .before .before .if3 .left))) ∙ else-goes _ _ _ (held (c .before .before .before .before .all-below4 .ensures) (c .before .before .before .before .before .before .before .before .before .before .before .before .before .before .before .output-count .ensures .0) (c .before .before .before .before .before .input-sources .ensures) (not-false _ (c .before .before .before .if4 .left))))
+returns-5 c =
+    feeds-same (c .feeds-refusal .ensures)
+    (c .before .before .before .before .before .before .before .before .before .before .before .before .before .before .output-owners .ensures)
+    (c .before .before .before .before .before .before .before .before .before .before .before .before .before .input-owners .ensures)
+    (c .before .before .feed-pairs .ensures) (c .before .feed-count .ensures .0)
+    ∙ sym
+    (else-goes _ _ _
+    (held
+    (c .before .before .before .before .before .before .before .before .before .before .before .before .all-below .ensures)
+    (c .before .before .before .before .before .before .before .before .before .before .before .before .before .before .before .before .unit-count .ensures .0)
+    (c .before .before .before .before .before .before .before .before .before .before .before .before .before .before .output-owners .ensures)
+    (not-false _
+    (c .before .before .before .before .before .before .before .before .before .before .before .if1 .left)))
+    ∙ else-goes _ _ _
+    (held
+    (c .before .before .before .before .before .before .before .before .before .before .all-below2 .ensures)
+    (c .before .before .before .before .before .before .before .before .before .before .before .before .before .before .before .before .unit-count .ensures .0)
+    (c .before .before .before .before .before .before .before .before .before .before .before .before .before .input-owners .ensures)
+    (not-false _ (c .before .before .before .before .before .before .before .before .before .if2 .left)))
+    ∙ else-goes _ _ _
+    (held (c .before .before .before .before .before .before .before .all-below3 .ensures) refl
+    (c .before .before .before .before .before .before .before .before .input-kinds .ensures)
+    (not-false _ (c .before .before .before .before .before .before .if3 .left)))
+    ∙ else-goes _ _ _
+    (held (c .before .before .before .before .all-below4 .ensures)
+    (c .before .before .before .before .before .before .before .before .before .before .before .before .before .before .before .output-count .ensures .0)
+    (c .before .before .before .before .before .input-sources .ensures)
+    (not-false _ (c .before .before .before .if4 .left))))
 
 pub wiring-spec : {M : Type 1} → statement M
 wiring-spec =
