@@ -1,7 +1,7 @@
 -- The walk lists no call twice.
 use mathlib.Core.Path.{_≡_, refl, ap}
 use mathlib.Core.Logic.{inl, inr}
-use mathlib.Core.Bool.{Bool, true, false, not, _||_}
+use mathlib.Core.Bool.{Bool, true, false, not, _||_, cond}
 use mathlib.Core.List.{List, [], _∷_}
 use Prim.Native.Nat.{ℕ, zero, suc, _≤_, _<_}
 use native.Mathlib.Omega.{arith}
@@ -33,7 +33,7 @@ upto-among c a [] t = t
 upto-among c a (x ∷ l) t = go (upto-among c a l) (eqb c x) t
   where
     go : (T (among (upto c l) a) → T (among l a)) → (b : Bool)
-        → T (among (elim b [ true ↦ x ∷ [] | false ↦ x ∷ upto c l ]) a) → T (among (x ∷ l) a)
+        → T (among (cond b (x ∷ []) (x ∷ upto c l)) a) → T (among (x ∷ l) a)
     go ih true u = elim (T-or (eqb a x) false u) [
       | inl e ↦ or-left (eqb a x) (among l a) e
       | inr e ↦ absurd e
@@ -48,7 +48,7 @@ unfolding upto
 upto-new c [] o = tt
 upto-new c (x ∷ l) o = go (upto-new c l (o .1)) (eqb c x)
   where
-    go : New (upto c l) → (b : Bool) → New (elim b [ true ↦ x ∷ [] | false ↦ x ∷ upto c l ])
+    go : New (upto c l) → (b : Bool) → New (cond b (x ∷ []) (x ∷ upto c l))
     go ih true = (tt, tt)
     go ih false =
         (not-T (among (upto c l) x) (λ t. clash (among l x) (upto-among c x l t) (o .0)), ih)

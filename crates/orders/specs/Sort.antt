@@ -1,5 +1,5 @@
 -- The order's procedure: at each place the lowest ready call, until none is ready.
-use mathlib.Core.Bool.{Bool, true, false, not, _&&_}
+use mathlib.Core.Bool.{Bool, not, _&&_, cond}
 use mathlib.Core.List.{List, [], _∷_}
 use Prim.Native.Nat.{ℕ, zero, suc}
 use lib.Dec.{ltb}
@@ -23,10 +23,8 @@ module _ (N : ℕ) (pred : ℕ → ℕ → Bool) where
   -- at each of at most n places the lowest ready call
   unfoldable pub sort : ℕ → (ℕ → Bool) → List ℕ
   sort zero done = []
-  sort (suc n) done = elim (ltb (nextCall done) N) [
-    | true ↦ nextCall done ∷ sort n (add (nextCall done) done)
-    | false ↦ []
-  ]
+  sort (suc n) done =
+      cond (ltb (nextCall done) N) (nextCall done ∷ sort n (add (nextCall done) done)) []
 
   -- all that can be placed, in its order
   unfoldable pub placed : List ℕ

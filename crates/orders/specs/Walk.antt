@@ -1,5 +1,5 @@
 -- "The cycle shown": the backward walk through the calls that remain.
-use mathlib.Core.Bool.{Bool, true, false, not, _||_}
+use mathlib.Core.Bool.{Bool, false, not, _||_, cond}
 use mathlib.Core.List.{List, [], _∷_}
 use Prim.Native.Nat.{ℕ, zero, suc}
 use lib.Dec.{eqb, ltb}
@@ -14,7 +14,7 @@ among (x ∷ l) c = eqb c x || among l c
 -- the front of the list up to c, and c
 unfoldable pub upto : ℕ → List ℕ → List ℕ
 upto c [] = []
-upto c (x ∷ l) = elim (eqb c x) [ true ↦ x ∷ [] | false ↦ x ∷ upto c l ]
+upto c (x ∷ l) = cond (eqb c x) (x ∷ []) (x ∷ upto c l)
 
 module _ (N : ℕ) (pred : ℕ → ℕ → Bool) (done : ℕ → Bool) where
   -- "its lowest remaining direct predecessor"; N where it has none
@@ -24,10 +24,8 @@ module _ (N : ℕ) (pred : ℕ → ℕ → Bool) (done : ℕ → Bool) where
   -- "until a call is met a second time"; seen has the newest first, so it stands in precedence order
   unfoldable pub walk : ℕ → List ℕ → ℕ → List ℕ
   walk zero seen c = []
-  walk (suc n) seen c = elim (ltb c N) [
-    | false ↦ []
-    | true ↦ elim (among seen c) [ true ↦ upto c seen | false ↦ walk n (c ∷ seen) (lowestBefore c) ]
-  ]
+  walk (suc n) seen c =
+      cond (ltb c N) (cond (among seen c) (upto c seen) (walk n (c ∷ seen) (lowestBefore c))) []
 
   -- "the lowest remaining call"; N where none remains
   unfoldable pub lowestLeft : ℕ

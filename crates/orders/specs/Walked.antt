@@ -1,7 +1,7 @@
 -- What the backward walk gives: a cycle, wherever each remaining call has a remaining direct predecessor.
 use mathlib.Core.Path.{_≡_, refl, sym}
 use mathlib.Core.Logic.{inl, inr}
-use mathlib.Core.Bool.{Bool, true, false, not, _||_}
+use mathlib.Core.Bool.{Bool, true, false, not, _||_, cond}
 use mathlib.Core.List.{List, [], _∷_}
 use Prim.Native.Nat.{ℕ, zero, suc, _+_, _-_, _≤_, _<_}
 use native.Mathlib.Omega.{arith}
@@ -56,7 +56,7 @@ module _ (N : ℕ) (pred : ℕ → ℕ → Bool) where
   upto-chain c a [] k = tt
   upto-chain c a (x ∷ l) k = go (upto-chain c x l (k .2)) (eqb c x)
     where
-      go : Chain x (upto c l) → (b : Bool) → Chain a (elim b [ true ↦ x ∷ [] | false ↦ x ∷ upto c l ])
+      go : Chain x (upto c l) → (b : Bool) → Chain a (cond b (x ∷ []) (x ∷ upto c l))
       go ih true = (k .0, k .1, tt)
       go ih false = (k .0, k .1, ih)
 
@@ -77,7 +77,7 @@ module _ (N : ℕ) (pred : ℕ → ℕ → Bool) where
   upto-ends c (x ∷ l) t = go (λ m. upto-ends c l m) (eqb c x) refl t
     where
       go : (T (among l c) → Ends c (upto c l)) → (b : Bool) → eqb c x ≡ b → T (b || among l c)
-          → Ends c (elim b [ true ↦ x ∷ [] | false ↦ x ∷ upto c l ])
+          → Ends c (cond b (x ∷ []) (x ∷ upto c l))
       go ih true e m = (omega arith, sym (eqb→eq c x (rw e tt)))
       go ih false e m = ends-cons c x (upto c l) (ih m)
 
@@ -86,7 +86,7 @@ module _ (N : ℕ) (pred : ℕ → ℕ → Bool) where
   upto-head c a [] k t = absurd t
   upto-head c a (x ∷ l) k t = go (eqb c x)
     where
-      go : (b : Bool) → T (pred a (getD {A = ℕ} (elim b [ true ↦ x ∷ [] | false ↦ x ∷ upto c l ]) 0 0))
+      go : (b : Bool) → T (pred a (getD {A = ℕ} (cond b (x ∷ []) (x ∷ upto c l)) 0 0))
       go true = k .1
       go false = k .1
 

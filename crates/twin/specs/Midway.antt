@@ -31,8 +31,8 @@ pick-same {Val} q (suc n) k f g h =
     go (pick-same q n (suc k) f g (λ i a b t. h i (omega arith) (omega arith) t)) (q k) refl
   where
     go : pick q n (suc k) f ≡ pick q n (suc k) g → (b : Bool) → q k ≡ b
-        → _≡_ {A = List Val} (elim b [ true ↦ f k ∷ pick q n (suc k) f | false ↦ pick q n (suc k) f ])
-        (elim b [ true ↦ g k ∷ pick q n (suc k) g | false ↦ pick q n (suc k) g ])
+        → _≡_ {A = List Val} (cond b (f k ∷ pick q n (suc k) f) (pick q n (suc k) f))
+        (cond b (g k ∷ pick q n (suc k) g) (pick q n (suc k) g))
     go ih true e = ap₂ _∷_ (h k (omega arith) (omega arith) (rw e tt)) ih
     go ih false e = ih
 

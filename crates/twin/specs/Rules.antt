@@ -1,5 +1,5 @@
 -- The rules of models: any functions of a state and of the values that document 01 lets them see.
-use mathlib.Core.Bool.{Bool, true, false}
+use mathlib.Core.Bool.{Bool, cond}
 use mathlib.Core.List.{List, [], _∷_}
 use Prim.Native.Nat.{ℕ, zero, suc}
 use lib.Dec.{eqb}
@@ -9,10 +9,7 @@ use Rattle.calls.specs.Precedence.{feedsTo}
 -- the values of those of the n numbers from k on that pass the test, by rising number
 unfoldable pub pick : {Val : Type 0} → (ℕ → Bool) → ℕ → ℕ → (ℕ → Val) → List Val
 pick q zero k value = []
-pick q (suc n) k value = elim (q k) [
-  | true ↦ value k ∷ pick q n (suc k) value
-  | false ↦ pick q n (suc k) value
-]
+pick q (suc n) k value = cond (q k) (value k ∷ pick q n (suc k) value) (pick q n (suc k) value)
 
 -- the values of a unit's inputs
 abbrev pub ofUnit : {Val : Type 0} → Shape → ℕ → (ℕ → Val) → List Val
