@@ -16,7 +16,7 @@ use Rattle.table.specs.Packed.{
   asked,
 }
 use Rattle.table.specs.Check.{
-  orElse,
+  refuse,
   countsIn,
   allBelow,
   isPair,
@@ -50,5 +50,5 @@ pub starred-orders :
     × (ordering alone 1 ≡ outcome 0 1 (0 ∷ []))
     × (ordering (itself 0) 3 ≡ outcome 0 3 (0 ∷ 1 ∷ 2 ∷ []))
     × (ordering (itself 1) 3 ≡ outcome 9 3 (0 ∷ 1 ∷ 2 ∷ []))
-unfolding every some leastFrom units outputs inputs feeds outputOwners inputOwners kinds sources pairs asked orElse countsIn allBelow isPair feedKnown feedAgain feedsFrom wiring refusal callIn feedsTo hasKind byKind before precedes ready nextCall sort placed upto lowestBefore walk lowestLeft met lowestOf lowestPlace shown placedOf shownOf stopped settled ordering
+unfolding every some leastFrom units outputs inputs feeds outputOwners inputOwners kinds sources pairs asked refuse countsIn allBelow isPair feedKnown feedAgain feedsFrom wiring refusal callIn feedsTo hasKind byKind before precedes ready nextCall sort placed upto lowestBefore walk lowestLeft met lowestOf lowestPlace shown placedOf shownOf stopped settled ordering
 starred-orders = (refl, refl, refl, refl, refl, refl, refl, refl)

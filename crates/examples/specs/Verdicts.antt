@@ -15,7 +15,7 @@ use Rattle.table.specs.Packed.{
   asked,
 }
 use Rattle.table.specs.Check.{
-  orElse,
+  refuse,
   countsIn,
   allBelow,
   isPair,
@@ -27,7 +27,7 @@ use Rattle.table.specs.Check.{
 }
 use Rattle.calls.specs.Number.{callIn}
 use Rattle.calls.specs.Precedence.{hasKind}
-use Rattle.judging.specs.Conditions.{refuse, early, unset, unstepped, unfed, ungot, refusalOf, refusalAt}
+use Rattle.judging.specs.Conditions.{early, unset, unstepped, unfed, ungot, refusalOf, refusalAt}
 use Rattle.judging.specs.Verdict.{answer, atEnd, verdictFrom, verdictOf}
 use Rattle.examples.specs.Tables.{A, C, G}
 
@@ -36,5 +36,5 @@ pub starred-verdicts :
     × (verdictOf G (0 ∷ 1 ∷ 3 ∷ []) ≡ answer 16 2)
     × (verdictOf A (0 ∷ 1 ∷ []) ≡ answer 14 1)
     × (verdictOf C (0 ∷ 2 ∷ 5 ∷ 1 ∷ []) ≡ answer 13 3)
-unfolding every some units outputs inputs feeds outputOwners inputOwners kinds sources pairs asked orElse countsIn allBelow isPair feedKnown feedAgain feedsFrom wiring refusal callIn hasKind refuse early unset unstepped unfed ungot refusalOf refusalAt atEnd verdictFrom verdictOf
+unfolding every some units outputs inputs feeds outputOwners inputOwners kinds sources pairs asked countsIn allBelow isPair feedKnown feedAgain feedsFrom wiring refusal callIn hasKind refuse early unset unstepped unfed ungot refusalOf refusalAt atEnd verdictFrom verdictOf
 starred-verdicts = (refl, refl, refl, refl)

@@ -11,8 +11,8 @@ use Rattle.calls.specs.declared.Call.{Call}
 use Rattle.calls.specs.declared.Call.the-variants.{Step, Get, Set, NoCall}
 use Rattle.calls.specs.Number.{callIn}
 use Rattle.calls.specs.Numbers.{call-step, call-get, call-set, call-none}
-use Rattle.judging.specs.Conditions.{refuse, early, unset, unstepped, unfed, ungot, refusalOf, refusalAt}
-use Rattle.judging.specs.Met.{refuse-on, refuse-at}
+use Rattle.judging.specs.Conditions.{early, unset, unstepped, unfed, ungot, refusalOf, refusalAt}
+use Rattle.table.specs.Chain.{refuse-on, refuse-at}
 use Rattle.judge.specs.Marks.{marks}
 
 -- ---- which number a call has, by its faults

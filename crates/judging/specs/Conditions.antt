@@ -1,17 +1,14 @@
 -- The conditions of one call where a set of calls is done, by rising number from 11.
-use mathlib.Core.Bool.{Bool, not, _&&_, cond}
+use mathlib.Core.Bool.{Bool, not, _&&_}
 use Prim.Native.Nat.{ℕ}
 use lib.Dec.{eqb}
 use Rattle.search.specs.Every.{some}
 use Rattle.table.specs.Shape.{Shape}
+use Rattle.table.specs.Check.{refuse}
 use Rattle.calls.specs.declared.Call.{Call}
 use Rattle.calls.specs.declared.Call.the-variants.{Step, Get, Set, NoCall}
 use Rattle.calls.specs.Number.{callOf, stepNo, getNo, setNo}
 use Rattle.calls.specs.Precedence.{hasKind}
-
--- the number where there is this fault, else what the later conditions give
-unfoldable pub refuse : Bool → ℕ → ℕ → ℕ
-refuse fault number later = cond fault number later
 
 module _ (s : Shape) (done : ℕ → Bool) where
   -- step: a delayed input of the unit is already set

@@ -9,33 +9,17 @@ use lib.Dec.{T, eqb, eqb→eq, not-T}
 use Rattle.search.specs.Truth.{T-and, and-T, either, clash, is-true, is-false, holds, eq-true}
 use Rattle.search.specs.Every.{some, found-some, some-no}
 use Rattle.table.specs.Shape.{Shape, total}
+use Rattle.table.specs.Chain.{refuse-on, refuse-0}
 use Rattle.calls.specs.declared.Call.{Call}
 use Rattle.calls.specs.declared.Call.the-variants.{Step, Get, Set, NoCall}
 use Rattle.calls.specs.Number.{callOf, getNo, setNo}
 use Rattle.calls.specs.Numbers.{is-none}
 use Rattle.calls.specs.Precedence.{hasKind}
 use Rattle.calls.specs.Neighbours.{kind-found, found-kind}
-use Rattle.judging.specs.Conditions.{refuse, early, unset, unstepped, unfed, ungot, refusalOf, refusalAt}
+use Rattle.judging.specs.Conditions.{early, unset, unstepped, unfed, ungot, refusalOf, refusalAt}
 use Rattle.judging.specs.Passes.{Allows, Meets}
 
 -- ---- a fault that is not there
-
-pub refuse-0 : {fault : Bool} {number later : ℕ} → refuse fault number later ≡ 0 → 0 < number
-    → (fault ≡ false) × (later ≡ 0)
-unfolding refuse
-refuse-0 {fault} {number} {later} e h = go fault refl
-  where
-    go : (b : Bool) → fault ≡ b → (fault ≡ false) × (later ≡ 0)
-    go true p = absurd (let z : number ≡ 0 = (rw p at e) in omega arith)
-    go false p = (p, (rw p at e))
-
-pub refuse-on : (fault : Bool) (number later : ℕ) → fault ≡ false → refuse fault number later ≡ later
-unfolding refuse
-refuse-on fault number later e = rw e
-
-pub refuse-at : (fault : Bool) (number later : ℕ) → fault ≡ true → refuse fault number later ≡ number
-unfolding refuse
-refuse-at fault number later e = rw e
 
 none-of : (q : ℕ → Bool) (n : ℕ) → some q n ≡ false → (i : ℕ) → i < n → T (not (q i))
 none-of q n e i h = not-T (q i) (λ t. (rw e at (found-some q n i h t)))
@@ -115,18 +99,18 @@ module _ (s : Shape) (done : ℕ → Bool) where
   refusal-meets : (k : Call) (again : Bool) → refusalOf s done k again ≡ 0 → (again ≡ false) × Allows s done k
   unfolding refusalOf unstepped ungot
   refusal-meets (Step u) again e =
-      let (a, e₁) = refuse-0 e (omega arith) in
-      let (b, e₂) = refuse-0 e₁ (omega arith) in
-      let (d, e₃) = refuse-0 e₂ (omega arith) in
+      let (a, e₁) = refuse-0 _ _ _ (omega arith) e in
+      let (b, e₂) = refuse-0 _ _ _ (omega arith) e₁ in
+      let (d, e₃) = refuse-0 _ _ _ (omega arith) e₂ in
       (a, (early-no u b, unset-no u d))
   refusal-meets (Get y) again e =
-      let (a, e₁) = refuse-0 e (omega arith) in
-      let (b, e₂) = refuse-0 e₁ (omega arith) in
-      let (d, e₃) = refuse-0 e₂ (omega arith) in
+      let (a, e₁) = refuse-0 _ _ _ (omega arith) e in
+      let (b, e₂) = refuse-0 _ _ _ (omega arith) e₁ in
+      let (d, e₃) = refuse-0 _ _ _ (omega arith) e₂ in
       (a, (undone-no (done (s .outputOwner y)) b, unfed-no y d))
   refusal-meets (Set x) again e =
-      let (a, e₁) = refuse-0 e (omega arith) in
-      let (b, e₂) = refuse-0 e₁ (omega arith) in
+      let (a, e₁) = refuse-0 _ _ _ (omega arith) e in
+      let (b, e₂) = refuse-0 _ _ _ (omega arith) e₁ in
       (a, undone-no (done (getNo s (s .source x))) b)
   refusal-meets NoCall again e = absurd (omega arith)
 

@@ -13,7 +13,7 @@ use Rattle.search.specs.Every.{every-yes, every-no, some-yes, some-no}
 use Rattle.table.specs.declared.Answer.{Answer}
 use Rattle.table.specs.Packed.{units, outputs, inputs, feeds, asked, pairInput, pairOutput}
 use Rattle.table.specs.Check.{
-  orElse,
+  refuse,
   countsIn,
   allBelow,
   isPair,
@@ -119,17 +119,17 @@ module _ (outs ins ps : List ℕ) (f k : ℕ) where
   feeds-end h = let e : f - k ≡ 0 = omega arith in rw e
 
   pub feeds-unknown : k < f → feedKnown outs ins ps k ≡ false → feedsFrom outs ins ps (f - k) k ≡ 6
-  unfolding feedsFrom orElse
+  unfolding feedsFrom refuse
   feeds-unknown h a = rw (left h, a)
 
   pub feeds-again : k < f → feedKnown outs ins ps k ≡ true → feedAgain ps k ≡ true
       → feedsFrom outs ins ps (f - k) k ≡ 7
-  unfolding feedsFrom orElse
+  unfolding feedsFrom refuse
   feeds-again h a b = rw (left h, a, b)
 
   pub feeds-on : k < f → feedKnown outs ins ps k ≡ true → feedAgain ps k ≡ false
       → feedsFrom outs ins ps (f - k) k ≡ feedsFrom outs ins ps (f - (k + 1)) (k + 1)
-  unfolding feedsFrom orElse
+  unfolding feedsFrom refuse
   feeds-on h a b = rw (left h, a, b, add-one)
 
 pub feeds-start : (outs ins ps : List ℕ) (f : ℕ)

@@ -23,9 +23,9 @@ use Rattle.table.specs.Packed.{
   shapeOf,
 }
 
--- the number where the test fails, else what the later checks give
-unfoldable pub orElse : Bool → ℕ → ℕ → ℕ
-orElse passes number later = cond passes later number
+-- the number where there is this fault, else what the later checks give
+unfoldable pub refuse : Bool → ℕ → ℕ → ℕ
+refuse fault number later = cond fault number later
 
 -- each count is in its range
 unfoldable pub countsIn : ℕ → ℕ → ℕ → ℕ → Bool
@@ -54,25 +54,25 @@ feedAgain ps k = some (λ j. isPair ps j (pairInput ps k) (pairOutput ps k)) k
 unfoldable pub feedsFrom : List ℕ → List ℕ → List ℕ → ℕ → ℕ → ℕ
 feedsFrom outs ins ps zero k = 0
 feedsFrom outs ins ps (suc n) k =
-    orElse (feedKnown outs ins ps k) 6
-    (orElse (not (feedAgain ps k)) 7
+    refuse (not (feedKnown outs ins ps k)) 6
+    (refuse (feedAgain ps k) 7
     (feedsFrom outs ins ps n (suc k)))
 
 -- output owners; input owners; kinds; sources; feeds
 unfoldable pub wiring : List ℕ → ℕ
 wiring t =
-    orElse (allBelow (units t) (outputOwners t)) 3
-    (orElse (allBelow (units t) (inputOwners t)) 3
-    (orElse (allBelow 2 (kinds t)) 4
-    (orElse (allBelow (outputs t) (sources t)) 5
+    refuse (not (allBelow (units t) (outputOwners t))) 3
+    (refuse (not (allBelow (units t) (inputOwners t))) 3
+    (refuse (not (allBelow 2 (kinds t))) 4
+    (refuse (not (allBelow (outputs t) (sources t))) 5
     (feedsFrom (outputOwners t) (inputOwners t) (pairs t) (feeds t) 0))))
 
 -- the number of the first check that fails, or 0
 unfoldable pub refusal : List ℕ → ℕ
 refusal t =
-    orElse (leb 4 (length t)) 1
-    (orElse (countsIn (units t) (outputs t) (inputs t) (feeds t)) 2
-    (orElse (eqb (length t) (asked t)) 1
+    refuse (not (leb 4 (length t))) 1
+    (refuse (not (countsIn (units t) (outputs t) (inputs t) (feeds t))) 2
+    (refuse (not (eqb (length t) (asked t))) 1
     (wiring t)))
 
 -- a refusal has place 0; success is number 0 with N as the place

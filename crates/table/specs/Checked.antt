@@ -10,18 +10,18 @@ use lib.Dec.{eqb, leb}
 use borrow.Author.Tests.{eqb-true, leb-true, le-leb, eq-eqb}
 use Rattle.search.specs.Truth.{holds}
 use Rattle.table.specs.Shape.{total}
-use Rattle.table.specs.Packed.{asked, shapeOf}
+use Rattle.table.specs.Packed.{units, outputs, inputs, feeds, asked, shapeOf}
 use Rattle.table.specs.Sound.{Sound}
-use Rattle.table.specs.Check.{refusal, checked}
-use Rattle.table.specs.Chain.{else-goes, else-zero}
+use Rattle.table.specs.Check.{countsIn, refusal, checked}
+use Rattle.table.specs.Chain.{check-goes, check-0}
 use Rattle.table.specs.Wiring.{counted, counts-pass, wired, wiring-pass}
 
 pub passed-sound : (t : List ℕ) → refusal t ≡ 0 → Sound t
 unfolding refusal
 passed-sound t e =
-    let (a, e₁) = else-zero (leb 4 (length t)) 1 _ (omega arith) e in
-    let (b, e₂) = else-zero _ 2 _ (omega arith) e₁ in
-    let (c, e₃) = else-zero (eqb (length t) (asked t)) 1 _ (omega arith) e₂ in
+    let (a, e₁) = check-0 (leb 4 (length t)) 1 _ (omega arith) e in
+    let (b, e₂) = check-0 (countsIn (units t) (outputs t) (inputs t) (feeds t)) 2 _ (omega arith) e₁ in
+    let (c, e₃) = check-0 (eqb (length t) (asked t)) 1 _ (omega arith) e₂ in
     let long = eqb-true (length t) (asked t) c in
     record {
       some = leb-true 4 (length t) a;
@@ -33,9 +33,9 @@ passed-sound t e =
 pub sound-passed : (t : List ℕ) → Sound t → refusal t ≡ 0
 unfolding refusal
 sound-passed t s =
-    else-goes _ 1 _ (le-leb 4 (length t) (s .some))
-    ∙ else-goes _ 2 _ (counts-pass t (s .counted))
-    ∙ else-goes _ 1 _ (eq-eqb (length t) (asked t) (s .long))
+    check-goes _ 1 _ (le-leb 4 (length t) (s .some))
+    ∙ check-goes _ 2 _ (counts-pass t (s .counted))
+    ∙ check-goes _ 1 _ (eq-eqb (length t) (asked t) (s .long))
     ∙ wiring-pass t (s .long) (s .wired)
 
 pub check-sound : (t : List ℕ) → (checked t .number ≡ 0) ↔ Sound t

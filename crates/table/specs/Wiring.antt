@@ -39,7 +39,7 @@ use Rattle.table.specs.Packed.{
 }
 use Rattle.table.specs.Sound.{Counted}
 use Rattle.table.specs.Check.{
-  orElse,
+  refuse,
   countsIn,
   allBelow,
   isPair,
@@ -55,7 +55,7 @@ use Rattle.table.specs.Layout.{
   long-sources,
   long-pairs,
 }
-use Rattle.table.specs.Chain.{else-goes, else-zero}
+use Rattle.table.specs.Chain.{refuse-on, refuse-0, check-goes, check-0}
 
 -- ---- the counts
 
@@ -110,10 +110,10 @@ module _ (outs ins ps : List ℕ) where
   unfolding feedsFrom
   feeds-each zero k e j l h = absurd (omega arith)
   feeds-each (suc n) k e j l h =
-      let (a, e₁) = else-zero _ 6 _ (omega arith) e in
-      let (b, e₂) = else-zero _ 7 _ (omega arith) e₁ in
+      let (a, e₁) = check-0 (feedKnown outs ins ps k) 6 _ (omega arith) e in
+      let (b, e₂) = refuse-0 (feedAgain ps k) 7 _ (omega arith) e₁ in
       elim (ℕ-discrete j k) [
-        | yes p ↦ rw p (holds _ a, holds _ b)
+        | yes p ↦ rw p (holds _ a, holds (not (feedAgain ps k)) (ap not b))
         | no p ↦ feeds-each n (suc k) e₂ j (omega arith) (omega arith)
       ]
 
@@ -124,7 +124,8 @@ module _ (outs ins ps : List ℕ) where
   each-feeds zero k h = refl
   each-feeds (suc n) k h =
       let (a, b) = h k (omega arith) (omega arith) in
-      else-goes _ 6 _ (is-true _ a) ∙ else-goes _ 7 _ (is-true _ b)
+      check-goes (feedKnown outs ins ps k) 6 _ (is-true _ a)
+      ∙ refuse-on (feedAgain ps k) 7 _ (is-false _ b)
       ∙ each-feeds n (suc k) (λ j l g. h j (omega arith) (omega arith))
 
 -- ---- the wiring
@@ -171,10 +172,10 @@ module _ (t : List ℕ) (long : length t ≡ asked t) where
   pub wired : wiring t ≡ 0 → Wired (shapeOf t)
   unfolding wiring
   wired e =
-      let (a, e₁) = else-zero (allBelow (units t) (outputOwners t)) 3 _ (omega arith) e in
-      let (b, e₂) = else-zero (allBelow (units t) (inputOwners t)) 3 _ (omega arith) e₁ in
-      let (c, e₃) = else-zero (allBelow 2 (kinds t)) 4 _ (omega arith) e₂ in
-      let (d, e₄) = else-zero (allBelow (outputs t) (sources t)) 5 _ (omega arith) e₃ in
+      let (a, e₁) = check-0 (allBelow (units t) (outputOwners t)) 3 _ (omega arith) e in
+      let (b, e₂) = check-0 (allBelow (units t) (inputOwners t)) 3 _ (omega arith) e₁ in
+      let (c, e₃) = check-0 (allBelow 2 (kinds t)) 4 _ (omega arith) e₂ in
+      let (d, e₄) = check-0 (allBelow (outputs t) (sources t)) 5 _ (omega arith) e₃ in
       let each = feeds-each (outputOwners t) (inputOwners t) (pairs t) (feeds t) 0 e₄ in
       record {
         output-owned = below (units t) (outputs t) (outputOwners t) (long-output-owners t long) a;
@@ -191,10 +192,10 @@ module _ (t : List ℕ) (long : length t ≡ asked t) where
   pub wiring-pass : Wired (shapeOf t) → wiring t ≡ 0
   unfolding wiring
   wiring-pass w =
-      else-goes _ 3 _ (below-pass (units t) (outputs t) (outputOwners t) (long-output-owners t long) (w .output-owned))
-      ∙ else-goes _ 3 _ (below-pass (units t) (inputs t) (inputOwners t) (long-input-owners t long) (w .input-owned))
-      ∙ else-goes _ 4 _ (below-pass 2 (inputs t) (kinds t) (long-kinds t long) (λ x h. omega (arith, w .kind-known x h)))
-      ∙ else-goes _ 5 _ (below-pass (outputs t) (inputs t) (sources t) (long-sources t long) (w .sourced))
+      check-goes _ 3 _ (below-pass (units t) (outputs t) (outputOwners t) (long-output-owners t long) (w .output-owned))
+      ∙ check-goes _ 3 _ (below-pass (units t) (inputs t) (inputOwners t) (long-input-owners t long) (w .input-owned))
+      ∙ check-goes _ 4 _ (below-pass 2 (inputs t) (kinds t) (long-kinds t long) (λ x h. omega (arith, w .kind-known x h)))
+      ∙ check-goes _ 5 _ (below-pass (outputs t) (inputs t) (sources t) (long-sources t long) (w .sourced))
       ∙ each-feeds (outputOwners t) (inputOwners t) (pairs t) (feeds t) 0 (λ k l h. (
         is-known k (w .feed-input k (omega arith)) (w .feed-output k (omega arith)) (w .feed-unit k (omega arith)),
         fresh k (omega arith),

@@ -21,7 +21,7 @@ use Rattle.table.specs.Packed.{
   shapeOf,
 }
 use Rattle.table.specs.Check.{
-  orElse,
+  refuse,
   countsIn,
   allBelow,
   isPair,
@@ -34,7 +34,6 @@ use Rattle.table.specs.Check.{
 use Rattle.calls.specs.Number.{callIn}
 use Rattle.calls.specs.Precedence.{feedsTo, hasKind}
 use Rattle.judging.specs.Conditions.{
-  refuse,
   early,
   unset,
   unstepped,
@@ -77,7 +76,7 @@ abbrev pub counted : List ℕ
 counted = 0 ∷ 1 ∷ 2 ∷ 3 ∷ 4 ∷ 5 ∷ []
 
 pub right-passed : verdictOf A right ≡ answer 0 6
-unfolding verdictOf verdictFrom atEnd refusalAt refusalOf refuse early unset unstepped unfed ungot hasKind some every refusal orElse countsIn allBelow wiring feedsFrom feedKnown feedAgain isPair units outputs inputs feeds asked outputOwners inputOwners kinds sources pairs callIn
+unfolding verdictOf verdictFrom atEnd refusalAt refusalOf refuse early unset unstepped unfed ungot hasKind some every refusal countsIn allBelow wiring feedsFrom feedKnown feedAgain isPair units outputs inputs feeds asked outputOwners inputOwners kinds sources pairs callIn
 right-passed = refl
 
 -- the pump steps on its old input, the tank on its new one; all at the new time
@@ -93,7 +92,7 @@ right-ends = (refl, refl, refl, refl, refl, refl)
 
 -- 0 1 is refused, and its run does not solve the equations: no output was got
 pub short-refused : verdictOf A (0 ∷ 1 ∷ []) ≡ answer 14 1
-unfolding verdictOf verdictFrom atEnd refusalAt refusalOf refuse early unset unstepped unfed ungot hasKind some every refusal orElse countsIn allBelow wiring feedsFrom feedKnown feedAgain isPair units outputs inputs feeds asked outputOwners inputOwners kinds sources pairs callIn
+unfolding verdictOf verdictFrom atEnd refusalAt refusalOf refuse early unset unstepped unfed ungot hasKind some every refusal countsIn allBelow wiring feedsFrom feedKnown feedAgain isPair units outputs inputs feeds asked outputOwners inputOwners kinds sources pairs callIn
 short-refused = refl
 
 pub short-fails : Solves (shapeOf A) adding (values start) (values (ending (0 ∷ 1 ∷ []))) → ⊥
@@ -104,7 +103,7 @@ short-fails s =
 
 -- so is the order that holds each call once: the tank stepped before its reactive input was set
 pub counted-refused : verdictOf A counted ≡ answer 14 1
-unfolding verdictOf verdictFrom atEnd refusalAt refusalOf refuse early unset unstepped unfed ungot hasKind some every refusal orElse countsIn allBelow wiring feedsFrom feedKnown feedAgain isPair units outputs inputs feeds asked outputOwners inputOwners kinds sources pairs callIn
+unfolding verdictOf verdictFrom atEnd refusalAt refusalOf refuse early unset unstepped unfed ungot hasKind some every refusal countsIn allBelow wiring feedsFrom feedKnown feedAgain isPair units outputs inputs feeds asked outputOwners inputOwners kinds sources pairs callIn
 counted-refused = refl
 
 pub counted-fails : Solves (shapeOf A) adding (values start) (values (ending counted)) → ⊥

@@ -4,12 +4,12 @@ use Rattle.table.proofs.check.first_refusal.Tie as tie
 use mathlib.Core.Path.{refl, sym, _∙_}
 use borrow.Author.Tests.{not-true, not-false, lt-leb, le-leb, eq-eqb, ne-eqb}
 use Rattle.table.specs.Check.{refusal}
-use Rattle.table.specs.Chain.{else-stops, else-goes}
+use Rattle.table.specs.Chain.{check-stops, check-goes}
 use Rattle.table.proofs.Checking.{counts-same, asked-same}
 
 returns : tie.Need-returns
 unfolding refusal
-returns c = sym (else-stops _ _ _ (lt-leb 4 _ (c .if1 .taken)))
+returns c = sym (check-stops _ _ _ (lt-leb 4 _ (c .if1 .taken)))
 
 output-count-requires : tie.Need-output-count-requires
 output-count-requires c κs = search needs
@@ -30,8 +30,8 @@ returns-2 : tie.Need-returns-2
 unfolding refusal
 returns-2 c =
     sym
-    (else-goes _ _ _ (le-leb 4 _ (c .before .before .before .before .before .before .if1 .left))
-    ∙ else-stops _ _ _
+    (check-goes _ _ _ (le-leb 4 _ (c .before .before .before .before .before .before .if1 .left))
+    ∙ check-stops _ _ _
     (counts-same (c .before .counts-in .ensures) (c .before .before .unit-count .ensures .0)
     (c .before .before .before .before .before .output-count .ensures .0)
     (c .before .before .before .before .input-count .ensures .0)
@@ -56,13 +56,13 @@ returns-3 : tie.Need-returns-3
 unfolding refusal
 returns-3 c =
     sym
-    (else-goes _ _ _ (le-leb 4 _ (c .before .before .before .before .before .before .before .if1 .left))
-    ∙ else-goes _ _ _
+    (check-goes _ _ _ (le-leb 4 _ (c .before .before .before .before .before .before .before .if1 .left))
+    ∙ check-goes _ _ _
     (counts-same (c .before .before .counts-in .ensures) (c .before .before .before .unit-count .ensures .0)
     (c .before .before .before .before .before .before .output-count .ensures .0)
     (c .before .before .before .before .before .input-count .ensures .0)
     (c .before .before .before .before .feed-count .ensures .0) (not-false _ (c .before .if2 .left)))
-    ∙ else-stops _ _ _
+    ∙ check-stops _ _ _
     (ne-eqb _ _
     (λ e.
     c .if3 .taken
@@ -84,15 +84,15 @@ unfolding refusal
 returns-4 c =
     c .wiring .ensures
     ∙ sym
-    (else-goes _ _ _ (le-leb 4 _ (c .before .before .before .before .before .before .before .before .if1 .left))
-    ∙ else-goes _ _ _
+    (check-goes _ _ _ (le-leb 4 _ (c .before .before .before .before .before .before .before .before .if1 .left))
+    ∙ check-goes _ _ _
     (counts-same (c .before .before .before .counts-in .ensures)
     (c .before .before .before .before .unit-count .ensures .0)
     (c .before .before .before .before .before .before .before .output-count .ensures .0)
     (c .before .before .before .before .before .before .input-count .ensures .0)
     (c .before .before .before .before .before .feed-count .ensures .0)
     (not-false _ (c .before .before .if2 .left)))
-    ∙ else-goes _ _ _
+    ∙ check-goes _ _ _
     (eq-eqb _ _
     (c .before .if3 .left
     ∙ asked-same _ _ _ _ (c .before .before .before .before .before .before .before .output-count .ensures .0)

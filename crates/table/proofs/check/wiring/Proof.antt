@@ -5,7 +5,7 @@ use mathlib.Core.Path.{refl, sym, _∙_}
 use borrow.Author.Tests.{not-true, not-false}
 use Rattle.table.specs.Check.{wiring}
 use Rattle.table.specs.Layout.{long-pairs}
-use Rattle.table.specs.Chain.{else-stops, else-goes}
+use Rattle.table.specs.Chain.{check-stops, check-goes}
 use Rattle.table.proofs.Checking.{held, pairs-room, feeds-same}
 
 unit-count-requires : tie.Need-unit-count-requires
@@ -27,7 +27,7 @@ returns : tie.Need-returns
 unfolding wiring
 returns c =
     sym
-    (else-stops _ _ _
+    (check-stops _ _ _
     (held (c .before .all-below .ensures) (c .before .before .before .before .before .unit-count .ensures .0)
     (c .before .before .before .output-owners .ensures) (not-true _ (c .if1 .taken))))
 
@@ -38,12 +38,12 @@ returns-2 : tie.Need-returns-2
 unfolding wiring
 returns-2 c =
     sym
-    (else-goes _ _ _
+    (check-goes _ _ _
     (held (c .before .before .before .all-below .ensures)
     (c .before .before .before .before .before .before .before .unit-count .ensures .0)
     (c .before .before .before .before .before .output-owners .ensures)
     (not-false _ (c .before .before .if1 .left)))
-    ∙ else-stops _ _ _
+    ∙ check-stops _ _ _
     (held (c .before .all-below2 .ensures)
     (c .before .before .before .before .before .before .before .unit-count .ensures .0)
     (c .before .before .before .before .input-owners .ensures) (not-true _ (c .if2 .taken))))
@@ -58,17 +58,17 @@ returns-3 : tie.Need-returns-3
 unfolding wiring
 returns-3 c =
     sym
-    (else-goes _ _ _
+    (check-goes _ _ _
     (held (c .before .before .before .before .before .before .all-below .ensures)
     (c .before .before .before .before .before .before .before .before .before .before .unit-count .ensures .0)
     (c .before .before .before .before .before .before .before .before .output-owners .ensures)
     (not-false _ (c .before .before .before .before .before .if1 .left)))
-    ∙ else-goes _ _ _
+    ∙ check-goes _ _ _
     (held (c .before .before .before .before .all-below2 .ensures)
     (c .before .before .before .before .before .before .before .before .before .before .unit-count .ensures .0)
     (c .before .before .before .before .before .before .before .input-owners .ensures)
     (not-false _ (c .before .before .before .if2 .left)))
-    ∙ else-stops _ _ _
+    ∙ check-stops _ _ _
     (held (c .before .all-below3 .ensures) refl (c .before .before .input-kinds .ensures)
     (not-true _ (c .if3 .taken))))
 
@@ -82,21 +82,21 @@ returns-4 : tie.Need-returns-4
 unfolding wiring
 returns-4 c =
     sym
-    (else-goes _ _ _
+    (check-goes _ _ _
     (held (c .before .before .before .before .before .before .before .before .before .all-below .ensures)
     (c .before .before .before .before .before .before .before .before .before .before .before .before .before .unit-count .ensures .0)
     (c .before .before .before .before .before .before .before .before .before .before .before .output-owners .ensures)
     (not-false _ (c .before .before .before .before .before .before .before .before .if1 .left)))
-    ∙ else-goes _ _ _
+    ∙ check-goes _ _ _
     (held (c .before .before .before .before .before .before .before .all-below2 .ensures)
     (c .before .before .before .before .before .before .before .before .before .before .before .before .before .unit-count .ensures .0)
     (c .before .before .before .before .before .before .before .before .before .before .input-owners .ensures)
     (not-false _ (c .before .before .before .before .before .before .if2 .left)))
-    ∙ else-goes _ _ _
+    ∙ check-goes _ _ _
     (held (c .before .before .before .before .all-below3 .ensures) refl
     (c .before .before .before .before .before .input-kinds .ensures)
     (not-false _ (c .before .before .before .if3 .left)))
-    ∙ else-stops _ _ _
+    ∙ check-stops _ _ _
     (held (c .before .all-below4 .ensures)
     (c .before .before .before .before .before .before .before .before .before .before .before .before .output-count .ensures .0)
     (c .before .before .input-sources .ensures) (not-true _ (c .if4 .taken))))
@@ -122,24 +122,24 @@ returns-5 c =
     (c .before .before .before .before .before .before .before .before .before .before .before .before .before .input-owners .ensures)
     (c .before .before .feed-pairs .ensures) (c .before .feed-count .ensures .0)
     ∙ sym
-    (else-goes _ _ _
+    (check-goes _ _ _
     (held
     (c .before .before .before .before .before .before .before .before .before .before .before .before .all-below .ensures)
     (c .before .before .before .before .before .before .before .before .before .before .before .before .before .before .before .before .unit-count .ensures .0)
     (c .before .before .before .before .before .before .before .before .before .before .before .before .before .before .output-owners .ensures)
     (not-false _
     (c .before .before .before .before .before .before .before .before .before .before .before .if1 .left)))
-    ∙ else-goes _ _ _
+    ∙ check-goes _ _ _
     (held
     (c .before .before .before .before .before .before .before .before .before .before .all-below2 .ensures)
     (c .before .before .before .before .before .before .before .before .before .before .before .before .before .before .before .before .unit-count .ensures .0)
     (c .before .before .before .before .before .before .before .before .before .before .before .before .before .input-owners .ensures)
     (not-false _ (c .before .before .before .before .before .before .before .before .before .if2 .left)))
-    ∙ else-goes _ _ _
+    ∙ check-goes _ _ _
     (held (c .before .before .before .before .before .before .before .all-below3 .ensures) refl
     (c .before .before .before .before .before .before .before .before .input-kinds .ensures)
     (not-false _ (c .before .before .before .before .before .before .if3 .left)))
-    ∙ else-goes _ _ _
+    ∙ check-goes _ _ _
     (held (c .before .before .before .before .all-below4 .ensures)
     (c .before .before .before .before .before .before .before .before .before .before .before .before .before .before .before .output-count .ensures .0)
     (c .before .before .before .before .before .input-sources .ensures)
