@@ -4,7 +4,8 @@ use mathlib.Core.Bool.{Bool, not, _&&_, cond}
 use mathlib.Core.List.{List}
 use lib.ListN.{length}
 use lib.Dec.{eqb, ltb, leb}
-use Rattle.grammar.specs.Words.{same, unit, out, inp, feed, join, delayed, reactive}
+use Rattle.grammar.specs.Quoted.{ascii}
+use Rattle.grammar.specs.Words.{same}
 use Rattle.grammar.specs.Rows.{word}
 use Rattle.grammar.specs.Draft.{Draft, unjoined, unitNamed, outputNamed, inputNamed, feedOf, isUnit, isOutput, isInput, isFeed, sourceOf, addUnit, addOutput, addInput, addFeed, addJoin}
 
@@ -36,7 +37,7 @@ faulty f (suc n) =
 
 -- 0 `delayed`, 1 `reactive`, 2 another word
 unfoldable pub kindOf : List ℕ → ℕ
-kindOf w = cond (same w delayed) 0 (cond (same w reactive) 1 2)
+kindOf w = cond (same w (ascii "delayed")) 0 (cond (same w (ascii "reactive")) 1 2)
 
 -- `unit`, name
 unfoldable pub unitLine : Draft → List (List ℕ) → Outcome
@@ -105,9 +106,9 @@ joinLine d f =
 -- line k by its keyword; "unknown keyword (`cosim` below line 1 too)" is 24
 unfoldable pub line : Draft → ℕ → List (List ℕ) → Outcome
 line d k f =
-    cond (same (word f 0) unit) (unitLine d f)
-    (cond (same (word f 0) out) (outLine d f)
-    (cond (same (word f 0) inp) (inLine d k f)
-    (cond (same (word f 0) feed) (feedLine d f)
-    (cond (same (word f 0) join) (joinLine d f)
+    cond (same (word f 0) (ascii "unit")) (unitLine d f)
+    (cond (same (word f 0) (ascii "out")) (outLine d f)
+    (cond (same (word f 0) (ascii "in")) (inLine d k f)
+    (cond (same (word f 0) (ascii "feed")) (feedLine d f)
+    (cond (same (word f 0) (ascii "join")) (joinLine d f)
     (refused 24 d)))))

@@ -4,7 +4,8 @@ use mathlib.Core.Bool.{Bool, not, _&&_, _||_, cond}
 use mathlib.Core.List.{List, [], _∷_, _++_, map}
 use lib.ListN.{length, getD, drop}
 use lib.Dec.{eqb, ltb}
-use Rattle.grammar.specs.Words.{lf, same, cosim, one}
+use Rattle.grammar.specs.Quoted.{ascii}
+use Rattle.grammar.specs.Words.{lf, same}
 use Rattle.grammar.specs.Rows.{rows, word, lineOf, firstBad}
 use Rattle.grammar.specs.Draft.{Draft, Output, Input, Feed, blank, noInput, isInput, loose}
 use Rattle.grammar.specs.Lines.{Outcome, line}
@@ -51,7 +52,7 @@ linesFrom room d k (f ∷ fs) =
 
 -- "`cosim`, `1`: first line, exactly": the version that it names, or 0
 unfoldable pub version : List (List ℕ) → ℕ
-version f = cond (eqb (length f) 2 && (same (word f 0) cosim && same (word f 1) one)) 1 0
+version f = cond (eqb (length f) 2 && (same (word f 0) (ascii "cosim") && same (word f 1) (ascii "1"))) 1 0
 
 unfoldable pub lineByLine : ℕ → List (List (List ℕ)) → Reading
 lineByLine room fs =

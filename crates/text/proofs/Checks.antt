@@ -9,7 +9,8 @@ use lib.ListN.{length, getD, take}
 use lib.Seq.{length-take-le}
 use lib.Dec.{eqb, ltb}
 use borrow.Author.Tests.{eq-eqb, ne-eqb, lt-ltb, le-ltb}
-use Rattle.grammar.specs.Words.{lf, same, cosim, one}
+use Rattle.grammar.specs.Quoted.{ascii}
+use Rattle.grammar.specs.Words.{lf, same}
 use Rattle.grammar.specs.Rows.{rows, word, times, lineOf, firstBad}
 use Rattle.grammar.specs.Reading.{Reading, reading, lineByLine, stopped, version}
 use Rattle.text.specs.declared.Answer.{Answer}
@@ -71,16 +72,16 @@ module _ (f : List (List ℕ)) (k : ℕ) (e : k ≡ length f) where
   version-count n = rw (ne-eqb (length f) 2 (λ q. n (e ∙ q)))
 
   module _ (z : k ≡ 2) (v : List ℕ) (q : v ≡ word f 0) where
-    pub version-word : same v cosim ≡ false → 0 ≡ version f
+    pub version-word : same v (ascii "cosim") ≡ false → 0 ≡ version f
     unfolding version
     version-word h = rw (eq-eqb (length f) 2 (sym e ∙ z), ← q, h)
 
-    module _ (h : same v cosim ≡ true) (w : List ℕ) (r : w ≡ word f 1) where
-      pub version-other : same w one ≡ false → 0 ≡ version f
+    module _ (h : same v (ascii "cosim") ≡ true) (w : List ℕ) (r : w ≡ word f 1) where
+      pub version-other : same w (ascii "1") ≡ false → 0 ≡ version f
       unfolding version
       version-other g = rw (eq-eqb (length f) 2 (sym e ∙ z), ← q, h, ← r, g)
 
-      pub version-one : same w one ≡ true → 1 ≡ version f
+      pub version-one : same w (ascii "1") ≡ true → 1 ≡ version f
       unfolding version
       version-one g = rw (eq-eqb (length f) 2 (sym e ∙ z), ← q, h, ← r, g)
 
