@@ -4,9 +4,9 @@ use mathlib.Core.Path.{_≡_, refl}
 use mathlib.Core.List.{List, [], _∷_}
 use Rattle.grammar.specs.Words.{same, allowed}
 use Rattle.grammar.specs.Rows.{grown, parted, rows, word, place, times, lineOf, firstBad}
-use Rattle.grammar.specs.Draft.{blank, unitNamed, outputNamed, inputNamed, feedOf, loose, isUnit, isOutput, isInput, isFeed, sourceOf, addUnit, addOutput, addInput, addFeed, joined, addJoin}
+use Rattle.grammar.specs.Draft.{blank, unitNamed, outputNamed, inputNamed, feedOf, loose, known, addUnit, addOutput, addInput, addFeed, joined, addJoin}
 use Rattle.grammar.specs.Lines.{refused, refuse, taken, isName, faulty, kindOf, unitLine, outLine, inLine, feedLine, joinLine, line}
-use Rattle.grammar.specs.Reading.{Reading, stopped, pairs, packed, written, ending, linesFrom, version, lineByLine, reading}
+use Rattle.grammar.specs.Reading.{Reading, stopped, pairs, packed, ending, linesFrom, version, lineByLine, reading}
 
 -- the text of the lister's example
 abbrev exampleText : List ℕ
@@ -26,13 +26,13 @@ exampleText =
 example : _≡_ {A = Reading}
     (reading 644 exampleText)
     (record { number = 0; place = 12; bytes = 2 ∷ 2 ∷ 2 ∷ 0 ∷ 0 ∷ 1 ∷ 0 ∷ 1 ∷ 0 ∷ 1 ∷ 1 ∷ 0 ∷ [] })
-unfolding allowed same grown parted rows word place times lineOf firstBad blank unitNamed outputNamed inputNamed feedOf loose isUnit isOutput isInput isFeed sourceOf addUnit addOutput addInput addFeed joined addJoin refused refuse taken isName faulty kindOf unitLine outLine inLine feedLine joinLine line stopped pairs packed written ending linesFrom version lineByLine reading
+unfolding allowed same grown parted rows word place times lineOf firstBad blank unitNamed outputNamed inputNamed feedOf loose known addUnit addOutput addInput addFeed joined addJoin refused refuse taken isName faulty kindOf unitLine outLine inLine feedLine joinLine line stopped pairs packed ending linesFrom version lineByLine reading
 example = refl
 
 refused-20-empty : _≡_ {A = Reading}
     (reading 644 [])
     (record { number = 20; place = 0; bytes = [] })
-unfolding allowed same grown parted rows word place times lineOf firstBad blank unitNamed outputNamed inputNamed feedOf loose isUnit isOutput isInput isFeed sourceOf addUnit addOutput addInput addFeed joined addJoin refused refuse taken isName faulty kindOf unitLine outLine inLine feedLine joinLine line stopped pairs packed written ending linesFrom version lineByLine reading
+unfolding allowed same grown parted rows word place times lineOf firstBad blank unitNamed outputNamed inputNamed feedOf loose known addUnit addOutput addInput addFeed joined addJoin refused refuse taken isName faulty kindOf unitLine outLine inLine feedLine joinLine line stopped pairs packed ending linesFrom version lineByLine reading
 refused-20-empty = refl
 
 -- the last line, not ended
@@ -40,7 +40,7 @@ refused-21-not-ended : _≡_ {A = Reading}
     (reading 644 (
     99 ∷ 111 ∷ 115 ∷ 105 ∷ 109 ∷ 9 ∷ 49 ∷ 10 ∷ 117 ∷ 110 ∷ 105 ∷ 116 ∷ []))
     (record { number = 21; place = 2; bytes = [] })
-unfolding allowed same grown parted rows word place times lineOf firstBad blank unitNamed outputNamed inputNamed feedOf loose isUnit isOutput isInput isFeed sourceOf addUnit addOutput addInput addFeed joined addJoin refused refuse taken isName faulty kindOf unitLine outLine inLine feedLine joinLine line stopped pairs packed written ending linesFrom version lineByLine reading
+unfolding allowed same grown parted rows word place times lineOf firstBad blank unitNamed outputNamed inputNamed feedOf loose known addUnit addOutput addInput addFeed joined addJoin refused refuse taken isName faulty kindOf unitLine outLine inLine feedLine joinLine line stopped pairs packed ending linesFrom version lineByLine reading
 refused-21-not-ended = refl
 
 -- a capital letter
@@ -48,7 +48,7 @@ refused-22-bad-byte : _≡_ {A = Reading}
     (reading 644 (
     99 ∷ 111 ∷ 115 ∷ 105 ∷ 109 ∷ 9 ∷ 49 ∷ 10 ∷ 117 ∷ 110 ∷ 105 ∷ 116 ∷ 9 ∷ 80 ∷ 10 ∷ []))
     (record { number = 22; place = 2; bytes = [] })
-unfolding allowed same grown parted rows word place times lineOf firstBad blank unitNamed outputNamed inputNamed feedOf loose isUnit isOutput isInput isFeed sourceOf addUnit addOutput addInput addFeed joined addJoin refused refuse taken isName faulty kindOf unitLine outLine inLine feedLine joinLine line stopped pairs packed written ending linesFrom version lineByLine reading
+unfolding allowed same grown parted rows word place times lineOf firstBad blank unitNamed outputNamed inputNamed feedOf loose known addUnit addOutput addInput addFeed joined addJoin refused refuse taken isName faulty kindOf unitLine outLine inLine feedLine joinLine line stopped pairs packed ending linesFrom version lineByLine reading
 refused-22-bad-byte = refl
 
 -- another first line
@@ -56,7 +56,7 @@ refused-23-first-line : _≡_ {A = Reading}
     (reading 644 (
     99 ∷ 111 ∷ 115 ∷ 105 ∷ 109 ∷ 9 ∷ 50 ∷ 10 ∷ []))
     (record { number = 23; place = 1; bytes = [] })
-unfolding allowed same grown parted rows word place times lineOf firstBad blank unitNamed outputNamed inputNamed feedOf loose isUnit isOutput isInput isFeed sourceOf addUnit addOutput addInput addFeed joined addJoin refused refuse taken isName faulty kindOf unitLine outLine inLine feedLine joinLine line stopped pairs packed written ending linesFrom version lineByLine reading
+unfolding allowed same grown parted rows word place times lineOf firstBad blank unitNamed outputNamed inputNamed feedOf loose known addUnit addOutput addInput addFeed joined addJoin refused refuse taken isName faulty kindOf unitLine outLine inLine feedLine joinLine line stopped pairs packed ending linesFrom version lineByLine reading
 refused-23-first-line = refl
 
 -- `cosim` below line 1
@@ -64,7 +64,7 @@ refused-24-cosim-below : _≡_ {A = Reading}
     (reading 644 (
     99 ∷ 111 ∷ 115 ∷ 105 ∷ 109 ∷ 9 ∷ 49 ∷ 10 ∷ 99 ∷ 111 ∷ 115 ∷ 105 ∷ 109 ∷ 9 ∷ 49 ∷ 10 ∷ []))
     (record { number = 24; place = 2; bytes = [] })
-unfolding allowed same grown parted rows word place times lineOf firstBad blank unitNamed outputNamed inputNamed feedOf loose isUnit isOutput isInput isFeed sourceOf addUnit addOutput addInput addFeed joined addJoin refused refuse taken isName faulty kindOf unitLine outLine inLine feedLine joinLine line stopped pairs packed written ending linesFrom version lineByLine reading
+unfolding allowed same grown parted rows word place times lineOf firstBad blank unitNamed outputNamed inputNamed feedOf loose known addUnit addOutput addInput addFeed joined addJoin refused refuse taken isName faulty kindOf unitLine outLine inLine feedLine joinLine line stopped pairs packed ending linesFrom version lineByLine reading
 refused-24-cosim-below = refl
 
 -- an empty line
@@ -72,7 +72,7 @@ refused-24-empty-line : _≡_ {A = Reading}
     (reading 644 (
     99 ∷ 111 ∷ 115 ∷ 105 ∷ 109 ∷ 9 ∷ 49 ∷ 10 ∷ 10 ∷ []))
     (record { number = 24; place = 2; bytes = [] })
-unfolding allowed same grown parted rows word place times lineOf firstBad blank unitNamed outputNamed inputNamed feedOf loose isUnit isOutput isInput isFeed sourceOf addUnit addOutput addInput addFeed joined addJoin refused refuse taken isName faulty kindOf unitLine outLine inLine feedLine joinLine line stopped pairs packed written ending linesFrom version lineByLine reading
+unfolding allowed same grown parted rows word place times lineOf firstBad blank unitNamed outputNamed inputNamed feedOf loose known addUnit addOutput addInput addFeed joined addJoin refused refuse taken isName faulty kindOf unitLine outLine inLine feedLine joinLine line stopped pairs packed ending linesFrom version lineByLine reading
 refused-24-empty-line = refl
 
 -- a field too many
@@ -81,14 +81,14 @@ refused-24-field-count : _≡_ {A = Reading}
     99 ∷ 111 ∷ 115 ∷ 105 ∷ 109 ∷ 9 ∷ 49 ∷ 10 ∷ 117 ∷ 110 ∷ 105 ∷ 116 ∷ 9 ∷ 97 ∷ 9 ∷ 98 ∷ 10
     ∷ []))
     (record { number = 24; place = 2; bytes = [] })
-unfolding allowed same grown parted rows word place times lineOf firstBad blank unitNamed outputNamed inputNamed feedOf loose isUnit isOutput isInput isFeed sourceOf addUnit addOutput addInput addFeed joined addJoin refused refuse taken isName faulty kindOf unitLine outLine inLine feedLine joinLine line stopped pairs packed written ending linesFrom version lineByLine reading
+unfolding allowed same grown parted rows word place times lineOf firstBad blank unitNamed outputNamed inputNamed feedOf loose known addUnit addOutput addInput addFeed joined addJoin refused refuse taken isName faulty kindOf unitLine outLine inLine feedLine joinLine line stopped pairs packed ending linesFrom version lineByLine reading
 refused-24-field-count = refl
 
 refused-25-name-empty : _≡_ {A = Reading}
     (reading 644 (
     99 ∷ 111 ∷ 115 ∷ 105 ∷ 109 ∷ 9 ∷ 49 ∷ 10 ∷ 117 ∷ 110 ∷ 105 ∷ 116 ∷ 9 ∷ 10 ∷ []))
     (record { number = 25; place = 2; bytes = [] })
-unfolding allowed same grown parted rows word place times lineOf firstBad blank unitNamed outputNamed inputNamed feedOf loose isUnit isOutput isInput isFeed sourceOf addUnit addOutput addInput addFeed joined addJoin refused refuse taken isName faulty kindOf unitLine outLine inLine feedLine joinLine line stopped pairs packed written ending linesFrom version lineByLine reading
+unfolding allowed same grown parted rows word place times lineOf firstBad blank unitNamed outputNamed inputNamed feedOf loose known addUnit addOutput addInput addFeed joined addJoin refused refuse taken isName faulty kindOf unitLine outLine inLine feedLine joinLine line stopped pairs packed ending linesFrom version lineByLine reading
 refused-25-name-empty = refl
 
 -- a name of 17 bytes
@@ -98,7 +98,7 @@ refused-25-name-long : _≡_ {A = Reading}
     100 ∷ 101 ∷ 102 ∷ 103 ∷ 104 ∷ 105 ∷ 106 ∷ 107 ∷ 108 ∷ 109 ∷ 110 ∷ 111 ∷ 112 ∷ 113 ∷ 10 ∷
     []))
     (record { number = 25; place = 2; bytes = [] })
-unfolding allowed same grown parted rows word place times lineOf firstBad blank unitNamed outputNamed inputNamed feedOf loose isUnit isOutput isInput isFeed sourceOf addUnit addOutput addInput addFeed joined addJoin refused refuse taken isName faulty kindOf unitLine outLine inLine feedLine joinLine line stopped pairs packed written ending linesFrom version lineByLine reading
+unfolding allowed same grown parted rows word place times lineOf firstBad blank unitNamed outputNamed inputNamed feedOf loose known addUnit addOutput addInput addFeed joined addJoin refused refuse taken isName faulty kindOf unitLine outLine inLine feedLine joinLine line stopped pairs packed ending linesFrom version lineByLine reading
 refused-25-name-long = refl
 
 refused-26-declared-twice : _≡_ {A = Reading}
@@ -106,14 +106,14 @@ refused-26-declared-twice : _≡_ {A = Reading}
     99 ∷ 111 ∷ 115 ∷ 105 ∷ 109 ∷ 9 ∷ 49 ∷ 10 ∷ 117 ∷ 110 ∷ 105 ∷ 116 ∷ 9 ∷ 97 ∷ 10 ∷ 117 ∷
     110 ∷ 105 ∷ 116 ∷ 9 ∷ 97 ∷ 10 ∷ []))
     (record { number = 26; place = 3; bytes = [] })
-unfolding allowed same grown parted rows word place times lineOf firstBad blank unitNamed outputNamed inputNamed feedOf loose isUnit isOutput isInput isFeed sourceOf addUnit addOutput addInput addFeed joined addJoin refused refuse taken isName faulty kindOf unitLine outLine inLine feedLine joinLine line stopped pairs packed written ending linesFrom version lineByLine reading
+unfolding allowed same grown parted rows word place times lineOf firstBad blank unitNamed outputNamed inputNamed feedOf loose known addUnit addOutput addInput addFeed joined addJoin refused refuse taken isName faulty kindOf unitLine outLine inLine feedLine joinLine line stopped pairs packed ending linesFrom version lineByLine reading
 refused-26-declared-twice = refl
 
 refused-27-not-declared : _≡_ {A = Reading}
     (reading 644 (
     99 ∷ 111 ∷ 115 ∷ 105 ∷ 109 ∷ 9 ∷ 49 ∷ 10 ∷ 111 ∷ 117 ∷ 116 ∷ 9 ∷ 97 ∷ 9 ∷ 98 ∷ 10 ∷ []))
     (record { number = 27; place = 2; bytes = [] })
-unfolding allowed same grown parted rows word place times lineOf firstBad blank unitNamed outputNamed inputNamed feedOf loose isUnit isOutput isInput isFeed sourceOf addUnit addOutput addInput addFeed joined addJoin refused refuse taken isName faulty kindOf unitLine outLine inLine feedLine joinLine line stopped pairs packed written ending linesFrom version lineByLine reading
+unfolding allowed same grown parted rows word place times lineOf firstBad blank unitNamed outputNamed inputNamed feedOf loose known addUnit addOutput addInput addFeed joined addJoin refused refuse taken isName faulty kindOf unitLine outLine inLine feedLine joinLine line stopped pairs packed ending linesFrom version lineByLine reading
 refused-27-not-declared = refl
 
 -- an unknown kind word before a unit that is not declared
@@ -122,7 +122,7 @@ refused-28-kind-first : _≡_ {A = Reading}
     99 ∷ 111 ∷ 115 ∷ 105 ∷ 109 ∷ 9 ∷ 49 ∷ 10 ∷ 105 ∷ 110 ∷ 9 ∷ 98 ∷ 9 ∷ 120 ∷ 9 ∷ 109 ∷ 97 ∷
     121 ∷ 98 ∷ 101 ∷ 10 ∷ []))
     (record { number = 28; place = 2; bytes = [] })
-unfolding allowed same grown parted rows word place times lineOf firstBad blank unitNamed outputNamed inputNamed feedOf loose isUnit isOutput isInput isFeed sourceOf addUnit addOutput addInput addFeed joined addJoin refused refuse taken isName faulty kindOf unitLine outLine inLine feedLine joinLine line stopped pairs packed written ending linesFrom version lineByLine reading
+unfolding allowed same grown parted rows word place times lineOf firstBad blank unitNamed outputNamed inputNamed feedOf loose known addUnit addOutput addInput addFeed joined addJoin refused refuse taken isName faulty kindOf unitLine outLine inLine feedLine joinLine line stopped pairs packed ending linesFrom version lineByLine reading
 refused-28-kind-first = refl
 
 -- a 33rd unit
@@ -148,7 +148,7 @@ refused-29-one-more : _≡_ {A = Reading}
     9 ∷ 117 ∷ 51 ∷ 48 ∷ 10 ∷ 117 ∷ 110 ∷ 105 ∷ 116 ∷ 9 ∷ 117 ∷ 51 ∷ 49 ∷ 10 ∷ 117 ∷ 110 ∷
     105 ∷ 116 ∷ 9 ∷ 117 ∷ 51 ∷ 50 ∷ 10 ∷ []))
     (record { number = 29; place = 34; bytes = [] })
-unfolding allowed same grown parted rows word place times lineOf firstBad blank unitNamed outputNamed inputNamed feedOf loose isUnit isOutput isInput isFeed sourceOf addUnit addOutput addInput addFeed joined addJoin refused refuse taken isName faulty kindOf unitLine outLine inLine feedLine joinLine line stopped pairs packed written ending linesFrom version lineByLine reading
+unfolding allowed same grown parted rows word place times lineOf firstBad blank unitNamed outputNamed inputNamed feedOf loose known addUnit addOutput addInput addFeed joined addJoin refused refuse taken isName faulty kindOf unitLine outLine inLine feedLine joinLine line stopped pairs packed ending linesFrom version lineByLine reading
 refused-29-one-more = refl
 
 refused-30-joined-twice : _≡_ {A = Reading}
@@ -158,7 +158,7 @@ refused-30-joined-twice : _≡_ {A = Reading}
     97 ∷ 121 ∷ 101 ∷ 100 ∷ 10 ∷ 106 ∷ 111 ∷ 105 ∷ 110 ∷ 9 ∷ 97 ∷ 9 ∷ 121 ∷ 9 ∷ 97 ∷ 9 ∷ 120
     ∷ 10 ∷ 106 ∷ 111 ∷ 105 ∷ 110 ∷ 9 ∷ 97 ∷ 9 ∷ 121 ∷ 9 ∷ 97 ∷ 9 ∷ 120 ∷ 10 ∷ []))
     (record { number = 30; place = 6; bytes = [] })
-unfolding allowed same grown parted rows word place times lineOf firstBad blank unitNamed outputNamed inputNamed feedOf loose isUnit isOutput isInput isFeed sourceOf addUnit addOutput addInput addFeed joined addJoin refused refuse taken isName faulty kindOf unitLine outLine inLine feedLine joinLine line stopped pairs packed written ending linesFrom version lineByLine reading
+unfolding allowed same grown parted rows word place times lineOf firstBad blank unitNamed outputNamed inputNamed feedOf loose known addUnit addOutput addInput addFeed joined addJoin refused refuse taken isName faulty kindOf unitLine outLine inLine feedLine joinLine line stopped pairs packed ending linesFrom version lineByLine reading
 refused-30-joined-twice = refl
 
 refused-31-not-joined : _≡_ {A = Reading}
@@ -167,7 +167,7 @@ refused-31-not-joined : _≡_ {A = Reading}
     117 ∷ 116 ∷ 9 ∷ 97 ∷ 9 ∷ 121 ∷ 10 ∷ 105 ∷ 110 ∷ 9 ∷ 97 ∷ 9 ∷ 120 ∷ 9 ∷ 100 ∷ 101 ∷ 108 ∷
     97 ∷ 121 ∷ 101 ∷ 100 ∷ 10 ∷ []))
     (record { number = 31; place = 4; bytes = [] })
-unfolding allowed same grown parted rows word place times lineOf firstBad blank unitNamed outputNamed inputNamed feedOf loose isUnit isOutput isInput isFeed sourceOf addUnit addOutput addInput addFeed joined addJoin refused refuse taken isName faulty kindOf unitLine outLine inLine feedLine joinLine line stopped pairs packed written ending linesFrom version lineByLine reading
+unfolding allowed same grown parted rows word place times lineOf firstBad blank unitNamed outputNamed inputNamed feedOf loose known addUnit addOutput addInput addFeed joined addJoin refused refuse taken isName faulty kindOf unitLine outLine inLine feedLine joinLine line stopped pairs packed ending linesFrom version lineByLine reading
 refused-31-not-joined = refl
 
 refused-32-feed-twice : _≡_ {A = Reading}
@@ -177,19 +177,19 @@ refused-32-feed-twice : _≡_ {A = Reading}
     97 ∷ 121 ∷ 101 ∷ 100 ∷ 10 ∷ 102 ∷ 101 ∷ 101 ∷ 100 ∷ 9 ∷ 97 ∷ 9 ∷ 120 ∷ 9 ∷ 121 ∷ 10 ∷
     102 ∷ 101 ∷ 101 ∷ 100 ∷ 9 ∷ 97 ∷ 9 ∷ 120 ∷ 9 ∷ 121 ∷ 10 ∷ []))
     (record { number = 32; place = 6; bytes = [] })
-unfolding allowed same grown parted rows word place times lineOf firstBad blank unitNamed outputNamed inputNamed feedOf loose isUnit isOutput isInput isFeed sourceOf addUnit addOutput addInput addFeed joined addJoin refused refuse taken isName faulty kindOf unitLine outLine inLine feedLine joinLine line stopped pairs packed written ending linesFrom version lineByLine reading
+unfolding allowed same grown parted rows word place times lineOf firstBad blank unitNamed outputNamed inputNamed feedOf loose known addUnit addOutput addInput addFeed joined addJoin refused refuse taken isName faulty kindOf unitLine outLine inLine feedLine joinLine line stopped pairs packed ending linesFrom version lineByLine reading
 refused-32-feed-twice = refl
 
 refused-33-no-unit : _≡_ {A = Reading}
     (reading 644 (
     99 ∷ 111 ∷ 115 ∷ 105 ∷ 109 ∷ 9 ∷ 49 ∷ 10 ∷ []))
     (record { number = 33; place = 1; bytes = [] })
-unfolding allowed same grown parted rows word place times lineOf firstBad blank unitNamed outputNamed inputNamed feedOf loose isUnit isOutput isInput isFeed sourceOf addUnit addOutput addInput addFeed joined addJoin refused refuse taken isName faulty kindOf unitLine outLine inLine feedLine joinLine line stopped pairs packed written ending linesFrom version lineByLine reading
+unfolding allowed same grown parted rows word place times lineOf firstBad blank unitNamed outputNamed inputNamed feedOf loose known addUnit addOutput addInput addFeed joined addJoin refused refuse taken isName faulty kindOf unitLine outLine inLine feedLine joinLine line stopped pairs packed ending linesFrom version lineByLine reading
 refused-33-no-unit = refl
 
 -- a byte too few for the example's table
 refused-34-no-room : _≡_ {A = Reading}
     (reading 11 exampleText)
     (record { number = 34; place = 0; bytes = [] })
-unfolding allowed same grown parted rows word place times lineOf firstBad blank unitNamed outputNamed inputNamed feedOf loose isUnit isOutput isInput isFeed sourceOf addUnit addOutput addInput addFeed joined addJoin refused refuse taken isName faulty kindOf unitLine outLine inLine feedLine joinLine line stopped pairs packed written ending linesFrom version lineByLine reading
+unfolding allowed same grown parted rows word place times lineOf firstBad blank unitNamed outputNamed inputNamed feedOf loose known addUnit addOutput addInput addFeed joined addJoin refused refuse taken isName faulty kindOf unitLine outLine inLine feedLine joinLine line stopped pairs packed ending linesFrom version lineByLine reading
 refused-34-no-room = refl

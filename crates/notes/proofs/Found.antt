@@ -14,7 +14,7 @@ use Rattle.search.specs.Truth.{T-and, either, is-true}
 use Rattle.grammar.specs.Words.{same}
 use Rattle.grammar.specs.Rows.{fieldAt}
 use Rattle.grammar.specs.Places.{place-least}
-use Rattle.grammar.specs.Draft.{Draft, Output, Input, noInput, unitNamed, outputNamed, inputNamed, feedOf, loose, sourceOf}
+use Rattle.grammar.specs.Draft.{Draft, Output, Input, noInput, unitNamed, outputNamed, inputNamed, feedOf, loose}
 use Rattle.notes.specs.Mark.{markFrom}
 use Rattle.notes.specs.Listed.{listed, listed-length, listed-at}
 use Rattle.notes.specs.declared.Counts.{Counts}

@@ -11,7 +11,8 @@ use Rattle.search.specs.Truth.{T-and, is-true, clash}
 use Rattle.grammar.specs.Words.{same}
 use Rattle.grammar.specs.Rows.{word, place}
 use Rattle.grammar.specs.Places.{place-is}
-use Rattle.grammar.specs.Draft.{Draft, Output, Input, Feed, unjoined, noInput, unitNamed, outputNamed, inputNamed, feedOf, isUnit, isOutput, isInput, isFeed}
+use Rattle.grammar.specs.Draft.{Draft, Output, Input, Feed, unjoined, noInput}
+use Rattle.grammar.specs.Draft.{unitNamed, outputNamed, inputNamed, feedOf, known}
 use Rattle.grammar.specs.Lines.{Outcome, refuse, refused, taken, kindOf, unitLine, outLine, inLine, feedLine, joinLine, line}
 use Rattle.reading.specs.Proper.{Proper, noOutput, noFeed, unit-proper, output-proper, input-proper, feed-proper, join-proper}
 
@@ -30,19 +31,11 @@ kind-low w = go (same w _) (same w _)
     go false true e = omega arith
     go false false e = absurd (mathlib.Core.Bool.true≢false e)
 
+known-low : {A : Type 0} (l : List A) (i : ℕ) → not (known l i) ≡ false → i < length l
+unfolding known
+known-low l i e = ltb-true _ _ (not-false _ e)
+
 module _ (d : Draft) (g : Proper d) where
-  unit-low : (u : ℕ) → not (isUnit d u) ≡ false → u < length (d .units)
-  unfolding isUnit
-  unit-low u e = ltb-true _ _ (not-false _ e)
-
-  output-low : (y : ℕ) → not (isOutput d y) ≡ false → y < length (d .outputs)
-  unfolding isOutput
-  output-low y e = ltb-true _ _ (not-false _ e)
-
-  input-low : (x : ℕ) → not (isInput d x) ≡ false → x < length (d .inputs)
-  unfolding isInput
-  input-low x e = ltb-true _ _ (not-false _ e)
-
   -- what is found by its unit is owned by it
   input-of : (u : ℕ) (w : List ℕ) → inputNamed d u w < length (d .inputs) → getD (d .inputs) (inputNamed d u w) noInput .owner ≡ u
   unfolding inputNamed
@@ -58,9 +51,9 @@ module _ (d : Draft) (g : Proper d) where
       let l = place-is (λ o. eqb (o .owner) u && same (o .name) w) noOutput (d .outputs) in
       eqb-true (o .owner) u (is-true (eqb (o .owner) u) (T-and (eqb (o .owner) u) (same (o .name) w) (l .passes h) .0))
 
-  feed-new : (x y : ℕ) → isFeed d (feedOf d x y) ≡ false → (k : ℕ) → k < length (d .feeds)
+  feed-new : (x y : ℕ) → known (d .feeds) (feedOf d x y) ≡ false → (k : ℕ) → k < length (d .feeds)
       → getD (d .feeds) k noFeed .input ≡ x → getD (d .feeds) k noFeed .output ≡ y → ⊥
-  unfolding isFeed feedOf
+  unfolding known feedOf
   feed-new x y e k h p q =
       let l = place-is (λ f. eqb (f .input) x && eqb (f .output) y) noFeed (d .feeds) in
       let n : T (not (eqb (getD (d .feeds) k noFeed .input) x && eqb (getD (d .feeds) k noFeed .output) y))
@@ -85,7 +78,7 @@ module _ (d : Draft) (g : Proper d) where
       or-refused _ 27 d _ g λ u.
       or-refused _ 26 d _ g λ e.
       or-refused _ 29 d _ g λ e.
-      output-proper d g (record { owner = unitNamed d (word f 1); name = word f 2 }) (unit-low _ u) (leb-false _ _ e)
+      output-proper d g (record { owner = unitNamed d (word f 1); name = word f 2 }) (known-low (d .units) _ u) (leb-false _ _ e)
 
   in-kept : (k : ℕ) (f : List (List ℕ)) → Proper (inLine d k f .draft)
   unfolding inLine taken
@@ -98,7 +91,7 @@ module _ (d : Draft) (g : Proper d) where
       or-refused _ 29 d _ g λ e.
       input-proper d g
       (record { owner = unitNamed d (word f 1); name = word f 2; kind = kindOf (word f 3); source = unjoined; line = k })
-      (unit-low _ u) (kind-low (word f 3) w) refl (leb-false _ _ e)
+      (known-low (d .units) _ u) (kind-low (word f 3) w) refl (leb-false _ _ e)
 
   feed-kept : (f : List (List ℕ)) → Proper (feedLine d f .draft)
   unfolding feedLine taken
@@ -112,8 +105,8 @@ module _ (d : Draft) (g : Proper d) where
       or-refused _ 32 d _ g λ n.
       or-refused _ 29 d _ g λ e.
       feed-proper d g (record { input = inputNamed d u (word f 2); output = outputNamed d u (word f 3) })
-      (input-low _ i) (output-low _ o)
-      (input-of u (word f 2) (input-low _ i) ∙ sym (output-of u (word f 3) (output-low _ o)))
+      (known-low (d .inputs) _ i) (known-low (d .outputs) _ o)
+      (input-of u (word f 2) (known-low (d .inputs) _ i) ∙ sym (output-of u (word f 3) (known-low (d .outputs) _ o)))
       (feed-new _ _ n) (leb-false _ _ e)
 
   join-kept : (f : List (List ℕ)) → Proper (joinLine d f .draft)
@@ -126,7 +119,7 @@ module _ (d : Draft) (g : Proper d) where
       or-refused _ 27 d _ g λ b.
       or-refused _ 27 d _ g λ i.
       or-refused _ 30 d _ g λ e.
-      join-proper d g _ _ (input-low _ i) (output-low _ o)
+      join-proper d g _ _ (known-low (d .inputs) _ i) (known-low (d .outputs) _ o)
 
   pub line-kept : (k : ℕ) (f : List (List ℕ)) → Proper (line d k f .draft)
   unfolding line refused

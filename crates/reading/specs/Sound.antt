@@ -17,9 +17,10 @@ use Rattle.table.specs.Check.{refusal}
 use Rattle.table.specs.Checked.{sound-passed}
 use Rattle.grammar.specs.Rows.{place, rows, lineOf, firstBad}
 use Rattle.grammar.specs.Places.{place-is}
-use Rattle.grammar.specs.Draft.{Draft, Output, Input, unjoined, noInput, isInput, loose, blank}
+use Rattle.grammar.specs.Draft.{Draft, Output, Input, unjoined, noInput, known, loose, blank}
 use Rattle.grammar.specs.Lines.{line}
-use Rattle.grammar.specs.Reading.{Reading, reading, lineByLine, linesFrom, ending, stopped, written, packed, version, pairs as feedPairs}
+use Rattle.grammar.specs.Reading.{Reading, reading, lineByLine, linesFrom, ending, stopped, packed, version}
+use Rattle.grammar.specs.Reading.{pairs as feedPairs}
 use Rattle.reading.specs.Proper.{Proper, noOutput, noFeed, blank-proper}
 use Rattle.reading.specs.Kept.{line-kept}
 use Rattle.reading.specs.Parts.{map-at, pairs-long, pairs-input, pairs-output, long, output-owners, input-owners, kinds-are, sources-are, pairs-are}
@@ -105,7 +106,7 @@ unfolding stopped
 fine-stopped n k h e = absurd (omega arith)
 
 ending-fine : (room : ℕ) (d : Draft) → Proper d → Fine (ending room d)
-unfolding ending loose isInput written
+unfolding ending loose known
 ending-fine room d g = go (eqb (length (d .units)) 0) refl (ltb at (length (d .inputs))) refl (ltb room (length (packed d)))
   where
     at : ℕ
@@ -119,7 +120,8 @@ ending-fine room d g = go (eqb (length (d .units)) 0) refl (ltb at (length (d .i
     ]
 
     go : (a : Bool) → eqb (length (d .units)) 0 ≡ a → (b : Bool) → ltb at (length (d .inputs)) ≡ b → (c : Bool)
-        → Fine (cond a (stopped 33 1) (cond b (stopped 31 (getD (d .inputs) at noInput .line)) (cond c (stopped 34 0) (written d))))
+        → Fine (cond a (stopped 33 1) (cond b (stopped 31 (getD (d .inputs) at noInput .line)) (cond c (stopped 34 0)
+        (record { number = 0; place = length (packed d); bytes = packed d }))))
     go true p b q c = fine-stopped 33 1 (omega arith)
     go false p true q c = fine-stopped 31 _ (omega arith)
     go false p false q true = fine-stopped 34 0 (omega arith)

@@ -6,22 +6,26 @@ use native.Mathlib.Omega.{arith}
 use lib.ListN.{length, drop}
 use borrow.Author.Tests.{ne-eqb, lt-ltb, le-ltb}
 use Rattle.search.specs.Front.{fronted}
-use Rattle.grammar.specs.Reading.{Reading, reading, stopped, written, packed}
+use Rattle.grammar.specs.Reading.{Reading, reading, stopped, packed}
 use Rattle.notes.specs.declared.Counts.{Counts}
 use Rattle.notes.specs.Notes.{draftOf, Fit}
 use Rattle.text.specs.declared.Noted.{Noted}
 use Rattle.text.specs.declared.Answer.{Answer}
 use Rattle.text.specs.Packs.{Slotted, bytesOf}
-use Rattle.text.specs.Walked.{Answered, Noticed, roomed}
+use Rattle.text.specs.Walked.{Noticed, written, roomed}
 use Rattle.text.proofs.Packing.{fit-slotted, packed-is, bytes-long}
+
+-- the answer and the buffer are those that the reading asks for
+abbrev Answered : Reading → List ℕ → List ℕ → Answer → Type 0
+Answered g before after r = (r ≡ record { number = g .number; place = g .place }) × (after ≡ fronted (g .bytes) before)
 
 -- the reading is known
 known : (g h : Reading) (before after : List ℕ) → g ≡ h → after ≡ fronted (h .bytes) before
     → Answered g before after (record { number = h .number; place = h .place })
-known g h before after e q = record {
-  answer = sym (ap (λ (x : Reading). record { number = x .number; place = x .place }) e);
-  bytes = q ∙ ap (λ (x : Reading). fronted (x .bytes) before) (sym e);
-}
+known g h before after e q = (
+  sym (ap (λ (x : Reading). (let r : Answer = record { number = x .number; place = x .place } in r)) e),
+  q ∙ ap (λ (x : Reading). fronted (x .bytes) before) (sym e),
+)
 
 module _ (t p s : List ℕ) (r : Noted) (k : Noticed t p s r) (out : List ℕ) where
   pub read-refused : (r .number ≡ 0 → ⊥)
@@ -47,7 +51,7 @@ module _ (t p s : List ℕ) (r : Noted) (k : Noticed t p s r) (out : List ℕ) w
 
       pub read-done : size ≤ length out → (after : List ℕ) → after ≡ fronted (bytesOf s (r .counts)) out
           → Answered (reading (length out) t) out after (record { number = 0; place = size })
-      unfolding roomed written
+      unfolding roomed
       read-done h after q =
           let d = draftOf t p s (r .counts) in
           let i : size ≡ length (packed d) = e ∙ sym long in

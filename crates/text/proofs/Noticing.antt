@@ -8,7 +8,7 @@ use lib.ListN.{length, getD, drop}
 use lib.Dec.{eqb}
 use borrow.Author.Tests.{eq-eqb, ne-eqb}
 use Rattle.grammar.specs.Rows.{rows, rowAt}
-use Rattle.grammar.specs.Draft.{blank, loose, isInput}
+use Rattle.grammar.specs.Draft.{blank, loose}
 use Rattle.grammar.specs.Reading.{Reading, reading, lineByLine, linesFrom, ending, stopped, version}
 use Rattle.fields.specs.declared.Fields.{Fields}
 use Rattle.notes.specs.declared.Counts.{Counts}

@@ -8,7 +8,7 @@ use lib.ListN.{length, getD}
 use lib.Dec.{eqb, leb}
 use borrow.Author.Tests.{eq-eqb, ne-eqb}
 use Rattle.grammar.specs.Rows.{rowAt, word, fieldAt}
-use Rattle.grammar.specs.Draft.{Draft, Feed, unjoined, unitNamed, outputNamed, inputNamed, feedOf, sourceOf, addFeed, addJoin}
+use Rattle.grammar.specs.Draft.{Draft, Feed, unjoined, unitNamed, outputNamed, inputNamed, feedOf, addFeed, addJoin}
 use Rattle.grammar.specs.Lines.{refuse, refused, taken, feedLine, joinLine}
 use Rattle.fields.specs.declared.Fields.{Fields}
 use Rattle.notes.specs.declared.Counts.{Counts}
