@@ -11,7 +11,7 @@ use Rattle.grammar.specs.Draft.{blank, unitNamed, outputNamed, inputName
 use Rattle.grammar.specs.Draft.{addUnit, addOutput, addInput, addFeed, joined, addJoin}
 use Rattle.grammar.specs.Lines.{refused, refuse, taken, isName, faulty, kindOf}
 use Rattle.grammar.specs.Lines.{unitLine, outLine, inLine, feedLine, joinLine, line}
-use Rattle.grammar.specs.Reading.{Reading, stopped, pairs, packed, ending, linesFrom, version}
+use Rattle.grammar.specs.Reading.{stopped, pairs, packed, ending, linesFrom, version}
 use Rattle.grammar.specs.Reading.{lineByLine, reading}
 
 -- ---- texts

@@ -7,8 +7,8 @@ use lib.Dec.{eqb, ltb, leb}
 use Rattle.grammar.specs.Quoted.{ascii}
 use Rattle.grammar.specs.Words.{same}
 use Rattle.grammar.specs.Rows.{word}
-use Rattle.grammar.specs.Draft.{Draft, unjoined, inputOf, unitNamed, outputNamed, inputNamed, feedOf, known}
-use Rattle.grammar.specs.Draft.{addUnit, addOutput, addInput, addFeed, addJoin}
+use Rattle.grammar.specs.Draft.{Draft, unjoined, inputOf, unitNamed, outputNamed, inputNamed, feedOf}
+use Rattle.grammar.specs.Draft.{known, addUnit, addOutput, addInput, addFeed, addJoin}
 
 -- a refusal's number, or 0, and the draft after the line
 pub record Outcome : Type 0 where

@@ -1,14 +1,14 @@
 -- The whole text: its checks, its first line, its lines, its end, and the packed bytes.
 use Prim.Native.Nat.{ℕ, suc, _-_}
-use mathlib.Core.Bool.{Bool, not, _&&_, _||_, cond}
+use mathlib.Core.Bool.{not, _&&_, _||_, cond}
 use mathlib.Core.List.{List, [], _∷_, _++_, map}
 use lib.ListN.{length, getD, drop}
 use lib.Dec.{eqb, ltb}
 use Rattle.grammar.specs.Quoted.{ascii}
 use Rattle.grammar.specs.Words.{lf, same}
 use Rattle.grammar.specs.Rows.{rows, word, lineOf, firstBad}
-use Rattle.grammar.specs.Draft.{Draft, Output, Input, Feed, blank, inputOf, loose, known}
-use Rattle.grammar.specs.Lines.{Outcome, line}
+use Rattle.grammar.specs.Draft.{Draft, Feed, blank, inputOf, loose, known}
+use Rattle.grammar.specs.Lines.{line}
 
 -- a refusal with its line; or 0 with the packed length and the packed bytes
 pub record Reading : Type 0 where

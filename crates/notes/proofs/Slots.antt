@@ -1,14 +1,14 @@
 -- Searches through the slots behind the names: a feed, and the first input that is not joined.
 use Prim.Native.Nat.{ℕ, _+_, _*_, _<_}
-use mathlib.Core.Path.{_≡_, refl, sym}
-use mathlib.Core.Bool.{Bool, not, _&&_}
+use mathlib.Core.Path.{_≡_, sym}
+use mathlib.Core.Bool.{not, _&&_}
 use mathlib.Core.List.{List}
 use lib.ListN.{length, getD}
 use lib.Dec.{T, eqb}
 use borrow.Author.Tests.{eq-eqb, ne-eqb}
 use Rattle.search.specs.Least.{leastFrom}
 use Rattle.grammar.specs.Places.{place-least}
-use Rattle.grammar.specs.Draft.{Draft, Feed, noInput, inputOf, feedOf, loose}
+use Rattle.grammar.specs.Draft.{noInput, inputOf, feedOf, loose}
 use Rattle.notes.specs.Listed.{listed, listed-length, listed-at}
 use Rattle.notes.specs.declared.Counts.{Counts}
 use Rattle.notes.specs.Notes.{nameAt, outputAt, inputAt, feedAt, draftOf, isFed, isLoose}

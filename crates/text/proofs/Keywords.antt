@@ -1,7 +1,7 @@
 -- A line by its keyword.
 use Prim.Native.Nat.{ℕ}
 use Prim.Native.String.{String}
-use mathlib.Core.Path.{_≡_, refl, sym, ap, subst, _∙_}
+use mathlib.Core.Path.{_≡_, refl, sym, ap, _∙_}
 use mathlib.Core.Bool.{Bool, true, false, cond}
 use mathlib.Core.List.{List}
 use borrow.Author.Tests.{ne-eqb}
@@ -31,7 +31,8 @@ module _ (d : Draft) (n : ℕ) (f : List (List ℕ)) where
   by-keyword = go (is "unit") (is "out") (is "in") (is "feed") (is "join")
     where
       go : (a b c e g : Bool)
-          → cond a (unitLine d f) (cond b (outLine d f) (cond c (inLine d n f) (cond e (feedLine d f) (cond g (joinLine d f) (refused 24 d)))))
+          → cond a (unitLine d f) (cond b (outLine d f) (cond c (inLine d n f) (cond e (feedLine d f)
+          (cond g (joinLine d f) (refused 24 d)))))
           ≡ byKeyword d n f (cond a 1 (cond b 2 (cond c 3 (cond e 4 (cond g 5 0)))))
       go true b c e g = refl
       go false true c e g = refl
@@ -64,6 +65,8 @@ module _ (d : Draft) (n : ℕ) (f : List (List ℕ)) where
     unfolding byKeyword
     line-join z = sym (line-is ∙ rw z)
 
-    pub line-none : (k ≡ 1 → ⊥) → (k ≡ 2 → ⊥) → (k ≡ 3 → ⊥) → (k ≡ 4 → ⊥) → (k ≡ 5 → ⊥) → refused 24 d ≡ line d n f
+    pub line-none : (k ≡ 1 → ⊥) → (k ≡ 2 → ⊥) → (k ≡ 3 → ⊥) → (k ≡ 4 → ⊥) → (k ≡ 5 → ⊥)
+        → refused 24 d ≡ line d n f
     unfolding byKeyword
-    line-none a b c g h = sym (line-is ∙ rw (ne-eqb k 1 a, ne-eqb k 2 b, ne-eqb k 3 c, ne-eqb k 4 g, ne-eqb k 5 h))
+    line-none a b c g h =
+        sym (line-is ∙ rw (ne-eqb k 1 a, ne-eqb k 2 b, ne-eqb k 3 c, ne-eqb k 4 g, ne-eqb k 5 h))

@@ -1,7 +1,7 @@
--- From what the notes hold to what a line's definition asks: refusals, a line taken, and the tests of numbers.
+-- From what the notes hold to what a line's definition asks: refusals, a line taken, the tests of numbers.
 use Prim.Native.Nat.{ℕ, _≤_, _<_}
-use mathlib.Core.Path.{_≡_, ap, sym, _∙_}
-use mathlib.Core.Bool.{Bool, true, false}
+use mathlib.Core.Path.{_≡_, ap, _∙_}
+use mathlib.Core.Bool.{true, false}
 use mathlib.Core.List.{List}
 use native.Mathlib.Omega.{arith}
 use lib.ListN.{length, getD}

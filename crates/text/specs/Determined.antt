@@ -1,4 +1,4 @@
--- Any two answers that the contract of a public function permits are equal, and any two buffers that it leaves.
+-- Any two answers that the contract of a public function permits are equal, and any two buffers it leaves.
 use mathlib.Core.Path.{_≡_, sym, _∙_}
 use mathlib.Core.List.{List}
 use Prim.Native.Nat.{ℕ}

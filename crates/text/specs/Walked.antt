@@ -1,9 +1,9 @@
 -- What the parts of the reader leave to be read, whatever the room in the packed buffer.
-use Prim.Native.Nat.{ℕ, _-_, _*_, _<_, _≤_}
+use Prim.Native.Nat.{ℕ, _-_, _<_, _≤_}
 use mathlib.Core.Path.{_≡_}
 use mathlib.Core.Bool.{cond}
-use mathlib.Core.List.{List, [], _∷_, _++_}
-use lib.ListN.{length, getD, take, drop}
+use mathlib.Core.List.{List}
+use lib.ListN.{length, getD}
 use lib.Dec.{eqb, ltb}
 use Rattle.grammar.specs.Rows.{rows}
 use Rattle.grammar.specs.Draft.{Draft}
