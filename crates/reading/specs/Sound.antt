@@ -174,7 +174,8 @@ read-sound room t =
   where
     go : (a b c e : Bool)
         → Fine (cond a (stopped 20 0) (cond b (stopped 21 (lineOf t (length t)))
-        (cond c (stopped 22 (lineOf t (firstBad t))) (cond e (stopped 23 1) (linesFrom room blank 2 (drop 1 (rows t)))))))
+        (cond c (stopped 22 (lineOf t (firstBad t))) (cond e (stopped 23 1)
+        (linesFrom room blank 2 (drop 1 (rows t)))))))
     go true b c e = fine-stopped 20 0 (omega arith)
     go false true c e = fine-stopped 21 _ (omega arith)
     go false false true e = fine-stopped 22 _ (omega arith)

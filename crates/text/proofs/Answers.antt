@@ -32,7 +32,8 @@ module _ (t p s : List ℕ) (r : Noted) (k : Noticed t p s r) (out : List ℕ) w
       → Answered (reading (length out) t) out out (record { number = r .number; place = r .place })
   unfolding stopped
   read-refused n =
-      known _ (stopped (r .number) (r .place)) out out (k .left (length out) ∙ rw (ne-eqb (r .number) 0 n)) refl
+      known _ (stopped (r .number) (r .place)) out out
+      (k .left (length out) ∙ rw (ne-eqb (r .number) 0 n)) refl
 
   module _ (z : r .number ≡ 0) where
     abbrev slots-fit : Slotted s (r .counts)
@@ -49,7 +50,8 @@ module _ (t p s : List ℕ) (r : Noted) (k : Noticed t p s r) (out : List ℕ) w
       unfolding roomed stopped
       read-34 h = known _ (stopped 34 0) out out
           (k .left (length out)
-          ∙ rw (z, lt-ltb (length out) (length (packed (draftOf t p s (r .counts)))) (omega (arith, long)))) refl
+          ∙ rw (z, lt-ltb (length out) (length (packed (draftOf t p s (r .counts)))) (omega (arith, long))))
+          refl
 
       pub read-room : size ≤ length out → length (bytesOf s (r .counts)) ≤ length out
       read-room h = omega (arith, bytes-long s (r .counts) slots-fit)

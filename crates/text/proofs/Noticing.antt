@@ -71,8 +71,8 @@ module _ (t p s : List ℕ) (w : Answer) (h : Whole t w) where
 
     module _ (n : v ≡ 0 → ⊥) (r : Noted) (a : ℕ) (b : a ≡ l .next)
         (k : Walked t p s r (λ room. linesFrom room blank 2 (rows (drop a t)))) where
-      lined : (room : ℕ) → reading room t
-          ≡ cond (eqb (r .number) 0) (ending room (draftOf t p s (r .counts))) (stopped (r .number) (r .place))
+      lined : (room : ℕ) → reading room t ≡
+          cond (eqb (r .number) 0) (ending room (draftOf t p s (r .counts))) (stopped (r .number) (r .place))
       lined room = first room ∙ rw (ne-eqb v 0 n, ← b) (k .left room)
 
       pub notice-line : (r .number ≡ 0 → ⊥) → Noticed t p s r
