@@ -30,15 +30,22 @@ pub record Draft : Type 0 where
   pub inputs : List Input
   pub feeds : List Feed
 
-unfoldable pub blank : Draft
-blank = record { units = []; outputs = []; inputs = []; feeds = [] }
+abbrev pub draft : List (List ℕ) → List Output → List Input → List Feed → Draft
+draft u y x f = record { units = u; outputs = y; inputs = x; feeds = f }
 
--- the source of an input that is not joined yet: no output has this number
+unfoldable pub blank : Draft
+blank = draft [] [] [] []
+
+-- the source of an input that is not joined yet: 255, since an output's number is below 96
 abbrev pub unjoined : ℕ
 unjoined = 255
 
 abbrev pub noInput : Input
 noInput = record { owner = 0; name = []; kind = 0; source = 0; line = 0 }
+
+-- input x
+abbrev pub inputOf : Draft → ℕ → Input
+inputOf d x = getD (d .inputs) x noInput
 
 -- ---- "Units share one set of names; each unit has one for its outputs and one for its inputs"
 -- the number of what has that name, or the count where nothing has
@@ -59,49 +66,27 @@ feedOf d x y = place (λ f. eqb (f .input) x && eqb (f .output) y) (d .feeds)
 unfoldable pub loose : Draft → ℕ
 loose d = place (λ i. eqb (i .source) unjoined) (d .inputs)
 
-unfoldable pub isUnit : Draft → ℕ → Bool
-isUnit d u = ltb u (length (d .units))
-
-unfoldable pub isOutput : Draft → ℕ → Bool
-isOutput d y = ltb y (length (d .outputs))
-
-unfoldable pub isInput : Draft → ℕ → Bool
-isInput d x = ltb x (length (d .inputs))
-
-unfoldable pub isFeed : Draft → ℕ → Bool
-isFeed d k = ltb k (length (d .feeds))
-
-unfoldable pub sourceOf : Draft → ℕ → ℕ
-sourceOf d x = getD (d .inputs) x noInput .source
+-- is i the number of one of these, or was none found?
+unfoldable pub known : {A : Type 0} → List A → ℕ → Bool
+known l i = ltb i (length l)
 
 -- ---- with one declaration more
 
 unfoldable pub addUnit : Draft → List ℕ → Draft
-addUnit d n =
-    record { units = d .units ++ (n ∷ []); outputs = d .outputs; inputs = d .inputs; feeds = d .feeds }
+addUnit d n = draft (d .units ++ (n ∷ [])) (d .outputs) (d .inputs) (d .feeds)
 
 unfoldable pub addOutput : Draft → Output → Draft
-addOutput d o =
-    record { units = d .units; outputs = d .outputs ++ (o ∷ []); inputs = d .inputs; feeds = d .feeds }
+addOutput d o = draft (d .units) (d .outputs ++ (o ∷ [])) (d .inputs) (d .feeds)
 
 unfoldable pub addInput : Draft → Input → Draft
-addInput d i =
-    record { units = d .units; outputs = d .outputs; inputs = d .inputs ++ (i ∷ []); feeds = d .feeds }
+addInput d i = draft (d .units) (d .outputs) (d .inputs ++ (i ∷ [])) (d .feeds)
 
 unfoldable pub addFeed : Draft → Feed → Draft
-addFeed d f =
-    record { units = d .units; outputs = d .outputs; inputs = d .inputs; feeds = d .feeds ++ (f ∷ []) }
+addFeed d f = draft (d .units) (d .outputs) (d .inputs) (d .feeds ++ (f ∷ []))
 
 unfoldable pub joined : Input → ℕ → Input
-joined i y =
-    record { owner = i .owner; name = i .name; kind = i .kind; source = y; line = i .line }
+joined i y = record { owner = i .owner; name = i .name; kind = i .kind; source = y; line = i .line }
 
 -- input x joined to output y
 unfoldable pub addJoin : Draft → ℕ → ℕ → Draft
-addJoin d x y =
-    record {
-      units = d .units;
-      outputs = d .outputs;
-      inputs = set (d .inputs) x (joined (getD (d .inputs) x noInput) y);
-      feeds = d .feeds;
-    }
+addJoin d x y = draft (d .units) (d .outputs) (set (d .inputs) x (joined (inputOf d x) y)) (d .feeds)

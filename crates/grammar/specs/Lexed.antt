@@ -1,5 +1,5 @@
 -- What a reader of fields promises of the line that begins at place a, and what follows for a field.
-use Prim.Native.Nat.{ℕ, zero, suc, _+_, _-_, _<_, _≤_}
+use Prim.Native.Nat.{ℕ, _+_, _-_, _<_, _≤_}
 use mathlib.Core.Path.{_≡_, refl, ap, _∙_}
 use mathlib.Core.Bool.{Bool, true, false, cond}
 use mathlib.Core.List.{List, [], _∷_}
@@ -9,7 +9,7 @@ use lib.Dec.{eqb}
 use Rattle.grammar.specs.Words.{tab, lf}
 use Rattle.grammar.specs.Rows.{rows, rowAt, word, front, fieldAt, wordEnd, stretch}
 
--- the first five fields begin at `from` and end at `to`; the line has `count` fields, and `next` begins the line below
+-- the first five fields begin at `from` and end at `to`; the line has `count` fields, `next` begins the next
 pub record Lexed (t : List ℕ) (a : ℕ) (from to : List ℕ) (count next : ℕ) : Type 0 where
   pub count-is : count ≡ length (rowAt t a)
   pub some : 0 < count

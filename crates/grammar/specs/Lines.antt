@@ -4,9 +4,11 @@ use mathlib.Core.Bool.{Bool, not, _&&_, cond}
 use mathlib.Core.List.{List}
 use lib.ListN.{length}
 use lib.Dec.{eqb, ltb, leb}
-use Rattle.grammar.specs.Words.{same, unit, out, inp, feed, join, delayed, reactive}
+use Rattle.grammar.specs.Quoted.{ascii}
+use Rattle.grammar.specs.Words.{same}
 use Rattle.grammar.specs.Rows.{word}
-use Rattle.grammar.specs.Draft.{Draft, unjoined, unitNamed, outputNamed, inputNamed, feedOf, isUnit, isOutput, isInput, isFeed, sourceOf, addUnit, addOutput, addInput, addFeed, addJoin}
+use Rattle.grammar.specs.Draft.{Draft, unjoined, inputOf, unitNamed, outputNamed, inputNamed, feedOf}
+use Rattle.grammar.specs.Draft.{known, addUnit, addOutput, addInput, addFeed, addJoin}
 
 -- a refusal's number, or 0, and the draft after the line
 pub record Outcome : Type 0 where
@@ -36,14 +38,14 @@ faulty f (suc n) =
 
 -- 0 `delayed`, 1 `reactive`, 2 another word
 unfoldable pub kindOf : List ℕ → ℕ
-kindOf w = cond (same w delayed) 0 (cond (same w reactive) 1 2)
+kindOf w = cond (same w (ascii "delayed")) 0 (cond (same w (ascii "reactive")) 1 2)
 
 -- `unit`, name
 unfoldable pub unitLine : Draft → List (List ℕ) → Outcome
 unitLine d f =
     refuse (not (eqb (length f) 2)) 24 d
     (refuse (ltb 0 (faulty f 1)) 25 d
-    (refuse (isUnit d (unitNamed d (word f 1))) 26 d
+    (refuse (known (d .units) (unitNamed d (word f 1))) 26 d
     (refuse (leb 32 (length (d .units))) 29 d
     (taken (addUnit d (word f 1))))))
 
@@ -53,8 +55,8 @@ outLine d f =
     let u = unitNamed d (word f 1) in
     refuse (not (eqb (length f) 3)) 24 d
     (refuse (ltb 0 (faulty f 2)) 25 d
-    (refuse (not (isUnit d u)) 27 d
-    (refuse (isOutput d (outputNamed d u (word f 2))) 26 d
+    (refuse (not (known (d .units) u)) 27 d
+    (refuse (known (d .outputs) (outputNamed d u (word f 2))) 26 d
     (refuse (leb 96 (length (d .outputs))) 29 d
     (taken (addOutput d (record { owner = u; name = word f 2 })))))))
 
@@ -62,14 +64,14 @@ outLine d f =
 unfoldable pub inLine : Draft → ℕ → List (List ℕ) → Outcome
 inLine d k f =
     let u = unitNamed d (word f 1) in
-    let kind = kindOf (word f 3) in
+    let w = kindOf (word f 3) in
     refuse (not (eqb (length f) 4)) 24 d
     (refuse (ltb 0 (faulty f 2)) 25 d
-    (refuse (eqb kind 2) 28 d
-    (refuse (not (isUnit d u)) 27 d
-    (refuse (isInput d (inputNamed d u (word f 2))) 26 d
+    (refuse (eqb w 2) 28 d
+    (refuse (not (known (d .units) u)) 27 d
+    (refuse (known (d .inputs) (inputNamed d u (word f 2))) 26 d
     (refuse (leb 96 (length (d .inputs))) 29 d
-    (taken (addInput d (record { owner = u; name = word f 2; kind = kind; source = unjoined; line = k }))))))))
+    (taken (addInput d (record { owner = u; name = word f 2; kind = w; source = unjoined; line = k }))))))))
 
 -- `feed`, unit, input, output
 unfoldable pub feedLine : Draft → List (List ℕ) → Outcome
@@ -79,10 +81,10 @@ feedLine d f =
     let y = outputNamed d u (word f 3) in
     refuse (not (eqb (length f) 4)) 24 d
     (refuse (ltb 0 (faulty f 3)) 25 d
-    (refuse (not (isUnit d u)) 27 d
-    (refuse (not (isInput d x)) 27 d
-    (refuse (not (isOutput d y)) 27 d
-    (refuse (isFeed d (feedOf d x y)) 32 d
+    (refuse (not (known (d .units) u)) 27 d
+    (refuse (not (known (d .inputs) x)) 27 d
+    (refuse (not (known (d .outputs) y)) 27 d
+    (refuse (known (d .feeds) (feedOf d x y)) 32 d
     (refuse (leb 128 (length (d .feeds))) 29 d
     (taken (addFeed d (record { input = x; output = y })))))))))
 
@@ -95,19 +97,19 @@ joinLine d f =
     let x = inputNamed d v (word f 4) in
     refuse (not (eqb (length f) 5)) 24 d
     (refuse (ltb 0 (faulty f 4)) 25 d
-    (refuse (not (isUnit d u)) 27 d
-    (refuse (not (isOutput d y)) 27 d
-    (refuse (not (isUnit d v)) 27 d
-    (refuse (not (isInput d x)) 27 d
-    (refuse (not (eqb (sourceOf d x) unjoined)) 30 d
+    (refuse (not (known (d .units) u)) 27 d
+    (refuse (not (known (d .outputs) y)) 27 d
+    (refuse (not (known (d .units) v)) 27 d
+    (refuse (not (known (d .inputs) x)) 27 d
+    (refuse (not (eqb (inputOf d x .source) unjoined)) 30 d
     (taken (addJoin d x y))))))))
 
 -- line k by its keyword; "unknown keyword (`cosim` below line 1 too)" is 24
 unfoldable pub line : Draft → ℕ → List (List ℕ) → Outcome
 line d k f =
-    cond (same (word f 0) unit) (unitLine d f)
-    (cond (same (word f 0) out) (outLine d f)
-    (cond (same (word f 0) inp) (inLine d k f)
-    (cond (same (word f 0) feed) (feedLine d f)
-    (cond (same (word f 0) join) (joinLine d f)
+    cond (same (word f 0) (ascii "unit")) (unitLine d f)
+    (cond (same (word f 0) (ascii "out")) (outLine d f)
+    (cond (same (word f 0) (ascii "in")) (inLine d k f)
+    (cond (same (word f 0) (ascii "feed")) (feedLine d f)
+    (cond (same (word f 0) (ascii "join")) (joinLine d f)
     (refused 24 d)))))

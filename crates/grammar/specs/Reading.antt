@@ -1,13 +1,14 @@
 -- The whole text: its checks, its first line, its lines, its end, and the packed bytes.
 use Prim.Native.Nat.{ℕ, suc, _-_}
-use mathlib.Core.Bool.{Bool, not, _&&_, _||_, cond}
+use mathlib.Core.Bool.{not, _&&_, _||_, cond}
 use mathlib.Core.List.{List, [], _∷_, _++_, map}
 use lib.ListN.{length, getD, drop}
 use lib.Dec.{eqb, ltb}
-use Rattle.grammar.specs.Words.{lf, same, cosim, one}
+use Rattle.grammar.specs.Quoted.{ascii}
+use Rattle.grammar.specs.Words.{lf, same}
 use Rattle.grammar.specs.Rows.{rows, word, lineOf, firstBad}
-use Rattle.grammar.specs.Draft.{Draft, Output, Input, Feed, blank, noInput, isInput, loose}
-use Rattle.grammar.specs.Lines.{Outcome, line}
+use Rattle.grammar.specs.Draft.{Draft, Feed, blank, inputOf, loose, known}
+use Rattle.grammar.specs.Lines.{line}
 
 -- a refusal with its line; or 0 with the packed length and the packed bytes
 pub record Reading : Type 0 where
@@ -30,17 +31,14 @@ packed d =
     (map (λ o. o .owner) (d .outputs) ++ (map (λ i. i .owner) (d .inputs)
     ++ (map (λ i. i .kind) (d .inputs) ++ (map (λ i. i .source) (d .inputs) ++ pairs (d .feeds))))))))
 
+-- "at the end 33 no unit (line 1), 31 input without join (..), 34 packed buffer too short (line 0)";
 -- "success returns the packed length and writes the table"
-unfoldable pub written : Draft → Reading
-written d = record { number = 0; place = length (packed d); bytes = packed d }
-
--- "at the end 33 no unit (line 1), 31 input without join (..), 34 packed buffer too short (line 0)"
 unfoldable pub ending : ℕ → Draft → Reading
 ending room d =
     cond (eqb (length (d .units)) 0) (stopped 33 1)
-    (cond (isInput d (loose d)) (stopped 31 (getD (d .inputs) (loose d) noInput .line))
+    (cond (known (d .inputs) (loose d)) (stopped 31 (inputOf d (loose d) .line))
     (cond (ltb room (length (packed d))) (stopped 34 0)
-    (written d)))
+    (record { number = 0; place = length (packed d); bytes = packed d })))
 
 -- line k and those below it
 unfoldable pub linesFrom : ℕ → Draft → ℕ → List (List (List ℕ)) → Reading
@@ -49,9 +47,9 @@ linesFrom room d k (f ∷ fs) =
     let o = line d k f in
     cond (eqb (o .number) 0) (linesFrom room (o .draft) (suc k) fs) (stopped (o .number) k)
 
--- "`cosim`, `1`: first line, exactly": the version that it names, or 0
+-- "`cosim`, `1`: first line, exactly": 1 where it is that, else 0
 unfoldable pub version : List (List ℕ) → ℕ
-version f = cond (eqb (length f) 2 && (same (word f 0) cosim && same (word f 1) one)) 1 0
+version f = cond (eqb (length f) 2 && (same (word f 0) (ascii "cosim") && same (word f 1) (ascii "1"))) 1 0
 
 unfoldable pub lineByLine : ℕ → List (List (List ℕ)) → Reading
 lineByLine room fs =

@@ -18,6 +18,7 @@ parted [] = []
 parted (r ∷ rs) = ([] ∷ r) ∷ rs
 
 -- "Lines of text ended by LF, the last one too; fields parted by one tab"
+-- what no LF follows is no line: 21 precedes
 unfoldable pub rows : List ℕ → List (List (List ℕ))
 rows [] = []
 rows (x ∷ xs) =
@@ -38,6 +39,7 @@ times c [] = 0
 times c (x ∷ xs) = cond (eqb x c) (suc (times c xs)) (times c xs)
 
 -- "a line counted from 1": the one on which the byte at place i stands
+-- for 21 i is the text's length, and the line is the one that is not ended
 unfoldable pub lineOf : List ℕ → ℕ → ℕ
 lineOf t i = suc (times lf (take i t))
 

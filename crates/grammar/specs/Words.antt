@@ -1,4 +1,4 @@
--- The bytes and words of a text table, and comparing words byte for byte.
+-- The bytes of a text table, and words compared byte for byte.
 use Prim.Native.Nat.{ℕ}
 use mathlib.Core.Bool.{Bool, true, false, _&&_, _||_}
 use mathlib.Core.List.{List, [], _∷_}
@@ -20,32 +20,3 @@ same [] [] = true
 same [] (y ∷ ys) = false
 same (x ∷ xs) [] = false
 same (x ∷ xs) (y ∷ ys) = eqb x y && same xs ys
-
--- ---- the words of the language, as their bytes
-
-abbrev pub cosim : List ℕ
-cosim = 99 ∷ 111 ∷ 115 ∷ 105 ∷ 109 ∷ []
-
-abbrev pub one : List ℕ
-one = 49 ∷ []
-
-abbrev pub unit : List ℕ
-unit = 117 ∷ 110 ∷ 105 ∷ 116 ∷ []
-
-abbrev pub out : List ℕ
-out = 111 ∷ 117 ∷ 116 ∷ []
-
-abbrev pub inp : List ℕ
-inp = 105 ∷ 110 ∷ []
-
-abbrev pub feed : List ℕ
-feed = 102 ∷ 101 ∷ 101 ∷ 100 ∷ []
-
-abbrev pub join : List ℕ
-join = 106 ∷ 111 ∷ 105 ∷ 110 ∷ []
-
-abbrev pub delayed : List ℕ
-delayed = 100 ∷ 101 ∷ 108 ∷ 97 ∷ 121 ∷ 101 ∷ 100 ∷ []
-
-abbrev pub reactive : List ℕ
-reactive = 114 ∷ 101 ∷ 97 ∷ 99 ∷ 116 ∷ 105 ∷ 118 ∷ 101 ∷ []

@@ -10,7 +10,6 @@ use Rattle.table.specs.Packed.{part}
 use Rattle.table.specs.declared.Answer.{Answer}
 use Rattle.grammar.specs.Reading.{Reading, reading}
 use Rattle.listing.specs.Lengths.{reading-fair}
-use Rattle.text.specs.Walked.{Answered}
 use Rattle.text.specs.declared.Answer.{Answer as Told}
 use Rattle.placing.specs.Placing.{Outcome}
 use Rattle.sorter.specs.Ordering.{ordering}
@@ -18,12 +17,14 @@ use Rattle.printing.specs.Listed.{Listed}
 use Rattle.printing.specs.Entries.{outcomeText, refusalText}
 use Rattle.listing.specs.Listing.{orderedText, listing}
 
-module _ (t before after : List ℕ) (a : Told) (r : Answered (reading 644 t) before after a) where
+module _ (t before after : List ℕ) (a : Told)
+    (r : (a ≡ record { number = reading 644 t .number; place = reading 644 t .place })
+    × (after ≡ fronted (reading 644 t .bytes) before)) where
   number-is : a .number ≡ reading 644 t .number
-  number-is = ap (λ (x : Told). x .number) (r .answer)
+  number-is = ap (λ (x : Told). x .number) (r .0)
 
   place-is : a .place ≡ reading 644 t .place
-  place-is = ap (λ (x : Told). x .place) (r .answer)
+  place-is = ap (λ (x : Told). x .place) (r .0)
 
   pub list-refused : (a .number ≡ 0 → ⊥) → refusalText (a .number) (a .place) ≡ listing t
   unfolding listing
@@ -33,7 +34,7 @@ module _ (t before after : List ℕ) (a : Told) (r : Answered (reading 644 t) be
     -- the front of the packed buffer is the table that was read
     table-is : part after 0 (a .place) ≡ reading 644 t .bytes
     table-is =
-        rw (r .bytes, place-is)
+        rw (r .1, place-is)
         (take-at (reading 644 t .bytes) _ (reading 644 t .place) (sym (reading-fair 644 t (sym number-is ∙ z))))
 
     pub list-ordered :

@@ -9,9 +9,9 @@ use lib.Dec.{eqb, ltb}
 use borrow.Author.Tests.{eqb-false}
 use Rattle.grammar.specs.Words.{lf}
 use Rattle.grammar.specs.Rows.{rows, lineOf, firstBad}
-use Rattle.grammar.specs.Draft.{Draft, blank, noInput, isInput, loose}
+use Rattle.grammar.specs.Draft.{Draft, blank, inputOf, known, loose}
 use Rattle.grammar.specs.Lines.{line}
-use Rattle.grammar.specs.Reading.{Reading, stopped, packed, written, ending, linesFrom, version, lineByLine, reading}
+use Rattle.grammar.specs.Reading.{Reading, stopped, packed, ending, linesFrom, version, lineByLine, reading}
 
 abbrev pub Fair : Reading → Type 0
 Fair r = r .number ≡ 0 → r .place ≡ length (r .bytes)
@@ -25,11 +25,14 @@ either true r s f g = f
 either false r s f g = g
 
 ending-fair : (room : ℕ) (d : Draft) → Fair (ending room d)
-unfolding ending written
+unfolding ending
 ending-fair room d =
     either (eqb (length (d .units)) 0) (stopped 33 1) _ (stopped-fair 33 1 (λ e. omega arith))
-    (either (isInput d (loose d)) (stopped 31 (getD (d .inputs) (loose d) noInput .line)) _ (stopped-fair 31 _ (λ e. omega arith))
-    (either (ltb room (length (packed d))) (stopped 34 0) (written d) (stopped-fair 34 0 (λ e. omega arith)) (λ e. refl)))
+    (either (known (d .inputs) (loose d)) (stopped 31 (inputOf d (loose d) .line)) _
+    (stopped-fair 31 _ (λ e. omega arith))
+    (either (ltb room (length (packed d))) (stopped 34 0)
+    (record { number = 0; place = length (packed d); bytes = packed d })
+    (stopped-fair 34 0 (λ e. omega arith)) (λ e. refl)))
 
 lines-fair : (room : ℕ) (d : Draft) (k : ℕ) (fs : List (List (List ℕ))) → Fair (linesFrom room d k fs)
 unfolding linesFrom

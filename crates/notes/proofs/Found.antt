@@ -1,12 +1,12 @@
 -- A search through the marks finds what the draft's names say.
-use Prim.Native.Nat.{ℕ, zero, suc, _+_, _≤_, _<_}
+use Prim.Native.Nat.{ℕ, _+_}
 use mathlib.Core.Path.{_≡_, refl, sym, ap, _∙_}
-use mathlib.Core.Logic.{_⊎_, inl, inr}
-use mathlib.Core.Bool.{Bool, true, false, not, _&&_}
+use mathlib.Core.Logic.{inl, inr}
+use mathlib.Core.Bool.{false, not, _&&_}
 use mathlib.Core.List.{List, [], _∷_}
 use native.Mathlib.Omega.{arith}
 use native.Mathlib.Nat.{zero-add}
-use lib.ListN.{length, getD}
+use lib.ListN.{getD}
 use lib.Dec.{T, eqb}
 use borrow.Author.Tests.{eqb-true, eq-eqb, ne-eqb}
 use Rattle.search.specs.Least.{leastFrom}
@@ -14,11 +14,12 @@ use Rattle.search.specs.Truth.{T-and, either, is-true}
 use Rattle.grammar.specs.Words.{same}
 use Rattle.grammar.specs.Rows.{fieldAt}
 use Rattle.grammar.specs.Places.{place-least}
-use Rattle.grammar.specs.Draft.{Draft, Output, Input, noInput, unitNamed, outputNamed, inputNamed, feedOf, loose, sourceOf}
+use Rattle.grammar.specs.Draft.{noInput, unitNamed, outputNamed, inputNamed}
 use Rattle.notes.specs.Mark.{markFrom}
 use Rattle.notes.specs.Listed.{listed, listed-length, listed-at}
 use Rattle.notes.specs.declared.Counts.{Counts}
-use Rattle.notes.specs.Notes.{nameAt, outputAt, inputAt, feedAt, draftOf, Marked, Fit, isNamed, named, Findable}
+use Rattle.notes.specs.Notes.{nameAt, outputAt, inputAt, draftOf, Marked, Fit}
+use Rattle.notes.specs.Notes.{isNamed, named, Findable}
 
 pub same-true : (v w : List ℕ) → T (same v w) → v ≡ w
 unfolding same
@@ -41,7 +42,10 @@ passed-over t p s u w k m n = elim (either (isNamed t p s u w k)) [
 
 module _ (t p s : List ℕ) (c : Counts) (f : Fit t p s c) where
   pub units-findable : Findable t p s 0 (c .units)
-  units-findable = record { low = omega (arith, f .units-most); marked = λ i h. rw (zero-add i) (f .units-marked i h) }
+  units-findable = record {
+    low = omega (arith, f .units-most);
+    marked = λ i h. rw (zero-add i) (f .units-marked i h);
+  }
 
   pub outputs-findable : Findable t p s 32 (c .outputs)
   outputs-findable = record { low = omega (arith, f .outputs-most); marked = f .outputs-marked }
@@ -51,7 +55,8 @@ module _ (t p s : List ℕ) (c : Counts) (f : Fit t p s c) where
 
   pub unit-found : (w : List ℕ) → leastFrom (named t p s 0 0 w) (c .units) 0 ≡ unitNamed (draftOf t p s c) w
   unfolding unitNamed draftOf isNamed
-  unit-found w = sym (place-least (λ n. same n w) [] (listed (nameAt t p) (c .units)) (named t p s 0 0 w) (c .units)
+  unit-found w =
+      sym (place-least (λ n. same n w) [] (listed (nameAt t p) (c .units)) (named t p s 0 0 w) (c .units)
       (listed-length (nameAt t p) (c .units))
       (λ i h. rw (listed-at (nameAt t p) (c .units) i [] h, zero-add i, f .units-free i h)))
 
@@ -86,6 +91,7 @@ module _ (t p s : List ℕ) (u : ℕ) (w : List ℕ) (k : ℕ) where
   unfolding isNamed
   other-owner n = rw (ne-eqb _ _ n)
 
-  pub own-name : (b : ℕ) → getD s (224 + k) 0 ≡ u → b ≡ getD p k 0 → same (fieldAt t b) w ≡ isNamed t p s u w k
+  pub own-name : (b : ℕ) → getD s (224 + k) 0 ≡ u → b ≡ getD p k 0
+      → same (fieldAt t b) w ≡ isNamed t p s u w k
   unfolding isNamed nameAt
   own-name b e z = rw (eq-eqb _ _ e, z)

@@ -1,14 +1,14 @@
 -- Searches through the slots behind the names: a feed, and the first input that is not joined.
 use Prim.Native.Nat.{ℕ, _+_, _*_, _<_}
-use mathlib.Core.Path.{_≡_, refl, sym}
-use mathlib.Core.Bool.{Bool, not, _&&_}
+use mathlib.Core.Path.{_≡_, sym}
+use mathlib.Core.Bool.{not, _&&_}
 use mathlib.Core.List.{List}
 use lib.ListN.{length, getD}
 use lib.Dec.{T, eqb}
 use borrow.Author.Tests.{eq-eqb, ne-eqb}
 use Rattle.search.specs.Least.{leastFrom}
 use Rattle.grammar.specs.Places.{place-least}
-use Rattle.grammar.specs.Draft.{Draft, Feed, noInput, feedOf, loose, sourceOf, isUnit, isOutput, isInput, isFeed}
+use Rattle.grammar.specs.Draft.{noInput, inputOf, feedOf, loose}
 use Rattle.notes.specs.Listed.{listed, listed-length, listed-at}
 use Rattle.notes.specs.declared.Counts.{Counts}
 use Rattle.notes.specs.Notes.{nameAt, outputAt, inputAt, feedAt, draftOf, isFed, isLoose}
@@ -46,11 +46,11 @@ module _ (t p s : List ℕ) (c : Counts) where
   unfolding draftOf
   feeds-are = listed-length (feedAt s) (c .feeds)
 
-  pub source-is : (x : ℕ) → x < c .inputs → sourceOf (draftOf t p s c) x ≡ getD s (544 + x) 0
-  unfolding draftOf sourceOf inputAt
-  source-is x h = rw (sourceOf, listed-at (inputAt t p s) (c .inputs) x noInput h)
+  pub source-is : (x : ℕ) → x < c .inputs → inputOf (draftOf t p s c) x .source ≡ getD s (544 + x) 0
+  unfolding draftOf inputAt
+  source-is x h = rw (listed-at (inputAt t p s) (c .inputs) x noInput h)
 
-  pub line-is : (x : ℕ) → x < c .inputs → getD (draftOf t p s c .inputs) x noInput .line ≡ getD p (224 + x) 0
+  pub line-is : (x : ℕ) → x < c .inputs → inputOf (draftOf t p s c) x .line ≡ getD p (224 + x) 0
   unfolding draftOf inputAt
   line-is x h = rw (listed-at (inputAt t p s) (c .inputs) x noInput h)
 

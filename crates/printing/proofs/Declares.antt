@@ -7,7 +7,7 @@ use native.Mathlib.Decide.{decLt}
 use native.Mathlib.Omega.{arith}
 use lib.ListN.{length, getD, take, drop, length-take}
 use borrow.Author.Tests.{eq-eqb, ne-eqb}
-use Rattle.grammar.specs.Words.{unit, out, inp}
+use Rattle.grammar.specs.Quoted.{ascii}
 use Rattle.grammar.specs.Rows.{rowAt, word, stretch}
 use Rattle.fields.specs.declared.Fields.{Fields}
 use Rattle.fields.specs.Spans.{fieldsAt}
@@ -71,26 +71,26 @@ module _ (t : List ℕ) (k : ℕ) (l : Line) where
 
 module _ (t us ys xs : List ℕ) (i : Indexed t us ys xs) where
   units-many : length us ≡ length (unitLines t)
-  units-many = rw (i .unit-places) (declared-many unit 32 t)
+  units-many = rw (i .unit-places) (declared-many (ascii "unit") 32 t)
 
   outputs-many : length ys ≡ length (outputLines t)
-  outputs-many = rw (i .output-places) (declared-many out 96 t)
+  outputs-many = rw (i .output-places) (declared-many (ascii "out") 96 t)
 
   inputs-many : length xs ≡ length (inputLines t)
-  inputs-many = rw (i .input-places) (declared-many inp 96 t)
+  inputs-many = rw (i .input-places) (declared-many (ascii "in") 96 t)
 
   same-call : (c : ℕ) → callAt t c ≡ callIn (length us) (length ys) (length xs) c
   unfolding callAt
   same-call c = rw (units-many, outputs-many, inputs-many)
 
   unit-row : (n : ℕ) → n < length us → rowAt t (getD us n 0) ≡ getD (unitLines t) n []
-  unit-row n h = rw (i .unit-places) (declared-row unit 32 t n (rw (← i .unit-places) h))
+  unit-row n h = rw (i .unit-places) (declared-row (ascii "unit") 32 t n (rw (← i .unit-places) h))
 
   output-row : (n : ℕ) → n < length ys → rowAt t (getD ys n 0) ≡ getD (outputLines t) n []
-  output-row n h = rw (i .output-places) (declared-row out 96 t n (rw (← i .output-places) h))
+  output-row n h = rw (i .output-places) (declared-row (ascii "out") 96 t n (rw (← i .output-places) h))
 
   input-row : (n : ℕ) → n < length xs → rowAt t (getD xs n 0) ≡ getD (inputLines t) n []
-  input-row n h = rw (i .input-places) (declared-row inp 96 t n (rw (← i .input-places) h))
+  input-row n h = rw (i .input-places) (declared-row (ascii "in") 96 t n (rw (← i .input-places) h))
 
   found : (k : ℕ) (c : Call) → Within (length us) (length ys) (length xs) c → textOf t k (lineFor us ys xs c) ≡ entryOf t k c
   unfolding textOf lineFor entryOf
@@ -105,9 +105,9 @@ module _ (t us ys xs : List ℕ) (i : Indexed t us ys xs) where
 
   some : (c : Call) → Within (length us) (length ys) (length xs) c → lineFor us ys xs c .kind < 3 → length t ≤ 65535
   unfolding lineFor
-  some (Step n) h s = declared-small unit 32 t n (rw (← i .unit-places) h)
-  some (Get n) h s = declared-small out 96 t n (rw (← i .output-places) h)
-  some (Set n) h s = declared-small inp 96 t n (rw (← i .input-places) h)
+  some (Step n) h s = declared-small (ascii "unit") 32 t n (rw (← i .unit-places) h)
+  some (Get n) h s = declared-small (ascii "out") 96 t n (rw (← i .output-places) h)
+  some (Set n) h s = declared-small (ascii "in") 96 t n (rw (← i .input-places) h)
   some NoCall h s = absurd (omega arith)
 
   pub line-small : (c : ℕ) → lineAt us ys xs c .kind < 3 → length t ≤ 65535

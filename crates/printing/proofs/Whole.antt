@@ -9,7 +9,7 @@ use lib.Seq.{take-at}
 use lib.Dec.{leb}
 use borrow.Author.Tests.{lt-ltb, le-ltb, leb-true, leb-false, eq-eqb, ne-eqb}
 use Rattle.search.specs.Front.{fronted}
-use Rattle.grammar.specs.Words.{tab, lf, unit, out, inp}
+use Rattle.grammar.specs.Words.{tab, lf}
 use Rattle.table.specs.Packed.{part}
 use Rattle.table.specs.declared.Answer.{Answer}
 use Rattle.declarations.specs.Lines.{beginsFrom, Noted}

@@ -5,7 +5,7 @@ use mathlib.Core.List.{List, [], _∷_, _++_}
 use lib.ListN.{length, getD}
 use lib.Dec.{eqb}
 use Rattle.table.specs.Packed.{part}
-use Rattle.grammar.specs.Words.{unit, out, inp}
+use Rattle.grammar.specs.Quoted.{ascii}
 use Rattle.grammar.specs.Rows.{word}
 use Rattle.declarations.specs.Lines.{declared}
 use Rattle.calls.specs.declared.Call.{Call}
@@ -17,13 +17,13 @@ use Rattle.printing.specs.Printed.{printed, order, cycle, refused, step,
 -- ---- the lines that declare units, outputs and inputs, as many as a table may have
 
 abbrev pub unitLines : List ℕ → List (List (List ℕ))
-unitLines t = declared unit 32 t
+unitLines t = declared (ascii "unit") 32 t
 
 abbrev pub outputLines : List ℕ → List (List (List ℕ))
-outputLines t = declared out 96 t
+outputLines t = declared (ascii "out") 96 t
 
 abbrev pub inputLines : List ℕ → List (List (List ℕ))
-inputLines t = declared inp 96 t
+inputLines t = declared (ascii "in") 96 t
 
 -- the call with number c
 unfoldable pub callAt : List ℕ → ℕ → Call

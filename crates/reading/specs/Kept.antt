@@ -1,22 +1,26 @@
 -- Each line keeps a proper draft proper.
-use Prim.Native.Nat.{ℕ, suc, _<_, _≤_}
+use Prim.Native.Nat.{ℕ, _<_, _≤_}
 use mathlib.Core.Path.{_≡_, refl, sym, _∙_}
 use mathlib.Core.Bool.{Bool, true, false, not, cond, _&&_}
 use mathlib.Core.List.{List}
 use native.Mathlib.Omega.{arith}
 use lib.ListN.{length, getD}
-use lib.Dec.{T, eqb, ltb, leb}
-use borrow.Author.Tests.{eqb-true, eqb-false, leb-false, ltb-true, ltb-false, not-false, eq-eqb}
-use Rattle.search.specs.Truth.{T-and, is-true, clash}
+use lib.Dec.{T, eqb}
+use borrow.Author.Tests.{eqb-true, leb-false, ltb-true, ltb-false, not-false, eq-eqb}
+use Rattle.search.specs.Truth.{T-and, is-true}
 use Rattle.grammar.specs.Words.{same}
-use Rattle.grammar.specs.Rows.{word, place}
+use Rattle.grammar.specs.Rows.{word}
 use Rattle.grammar.specs.Places.{place-is}
-use Rattle.grammar.specs.Draft.{Draft, Output, Input, Feed, unjoined, noInput, unitNamed, outputNamed, inputNamed, feedOf, isUnit, isOutput, isInput, isFeed}
-use Rattle.grammar.specs.Lines.{Outcome, refuse, refused, taken, kindOf, unitLine, outLine, inLine, feedLine, joinLine, line}
-use Rattle.reading.specs.Proper.{Proper, noOutput, noFeed, unit-proper, output-proper, input-proper, feed-proper, join-proper}
+use Rattle.grammar.specs.Draft.{Draft, unjoined, noInput}
+use Rattle.grammar.specs.Draft.{unitNamed, outputNamed, inputNamed, feedOf, known}
+use Rattle.grammar.specs.Lines.{Outcome, refuse, refused, taken, kindOf}
+use Rattle.grammar.specs.Lines.{unitLine, outLine, inLine, feedLine, joinLine, line}
+use Rattle.reading.specs.Proper.{Proper, noOutput, noFeed}
+use Rattle.reading.specs.Proper.{unit-proper, output-proper, input-proper, feed-proper, join-proper}
 
 -- a refusal keeps the draft
-or-refused : (b : Bool) (n : ℕ) (d : Draft) (o : Outcome) → Proper d → (b ≡ false → Proper (o .draft)) → Proper (refuse b n d o .draft)
+or-refused : (b : Bool) (n : ℕ) (d : Draft) (o : Outcome) → Proper d → (b ≡ false → Proper (o .draft))
+    → Proper (refuse b n d o .draft)
 unfolding refuse refused
 or-refused true n d o g h = g
 or-refused false n d o g h = h refl
@@ -30,37 +34,33 @@ kind-low w = go (same w _) (same w _)
     go false true e = omega arith
     go false false e = absurd (mathlib.Core.Bool.true≢false e)
 
+known-low : {A : Type 0} (l : List A) (i : ℕ) → not (known l i) ≡ false → i < length l
+unfolding known
+known-low l i e = ltb-true _ _ (not-false _ e)
+
 module _ (d : Draft) (g : Proper d) where
-  unit-low : (u : ℕ) → not (isUnit d u) ≡ false → u < length (d .units)
-  unfolding isUnit
-  unit-low u e = ltb-true _ _ (not-false _ e)
-
-  output-low : (y : ℕ) → not (isOutput d y) ≡ false → y < length (d .outputs)
-  unfolding isOutput
-  output-low y e = ltb-true _ _ (not-false _ e)
-
-  input-low : (x : ℕ) → not (isInput d x) ≡ false → x < length (d .inputs)
-  unfolding isInput
-  input-low x e = ltb-true _ _ (not-false _ e)
-
   -- what is found by its unit is owned by it
-  input-of : (u : ℕ) (w : List ℕ) → inputNamed d u w < length (d .inputs) → getD (d .inputs) (inputNamed d u w) noInput .owner ≡ u
+  input-of : (u : ℕ) (w : List ℕ) → inputNamed d u w < length (d .inputs)
+      → getD (d .inputs) (inputNamed d u w) noInput .owner ≡ u
   unfolding inputNamed
   input-of u w h =
       let i = getD (d .inputs) (inputNamed d u w) noInput in
       let l = place-is (λ i. eqb (i .owner) u && same (i .name) w) noInput (d .inputs) in
-      eqb-true (i .owner) u (is-true (eqb (i .owner) u) (T-and (eqb (i .owner) u) (same (i .name) w) (l .passes h) .0))
+      eqb-true (i .owner) u
+      (is-true (eqb (i .owner) u) (T-and (eqb (i .owner) u) (same (i .name) w) (l .passes h) .0))
 
-  output-of : (u : ℕ) (w : List ℕ) → outputNamed d u w < length (d .outputs) → getD (d .outputs) (outputNamed d u w) noOutput .owner ≡ u
+  output-of : (u : ℕ) (w : List ℕ) → outputNamed d u w < length (d .outputs)
+      → getD (d .outputs) (outputNamed d u w) noOutput .owner ≡ u
   unfolding outputNamed
   output-of u w h =
       let o = getD (d .outputs) (outputNamed d u w) noOutput in
       let l = place-is (λ o. eqb (o .owner) u && same (o .name) w) noOutput (d .outputs) in
-      eqb-true (o .owner) u (is-true (eqb (o .owner) u) (T-and (eqb (o .owner) u) (same (o .name) w) (l .passes h) .0))
+      eqb-true (o .owner) u
+      (is-true (eqb (o .owner) u) (T-and (eqb (o .owner) u) (same (o .name) w) (l .passes h) .0))
 
-  feed-new : (x y : ℕ) → isFeed d (feedOf d x y) ≡ false → (k : ℕ) → k < length (d .feeds)
+  feed-new : (x y : ℕ) → known (d .feeds) (feedOf d x y) ≡ false → (k : ℕ) → k < length (d .feeds)
       → getD (d .feeds) k noFeed .input ≡ x → getD (d .feeds) k noFeed .output ≡ y → ⊥
-  unfolding isFeed feedOf
+  unfolding known feedOf
   feed-new x y e k h p q =
       let l = place-is (λ f. eqb (f .input) x && eqb (f .output) y) noFeed (d .feeds) in
       let n : T (not (eqb (getD (d .feeds) k noFeed .input) x && eqb (getD (d .feeds) k noFeed .output) y))
@@ -85,7 +85,8 @@ module _ (d : Draft) (g : Proper d) where
       or-refused _ 27 d _ g λ u.
       or-refused _ 26 d _ g λ e.
       or-refused _ 29 d _ g λ e.
-      output-proper d g (record { owner = unitNamed d (word f 1); name = word f 2 }) (unit-low _ u) (leb-false _ _ e)
+      output-proper d g (record { owner = unitNamed d (word f 1); name = word f 2 })
+      (known-low (d .units) _ u) (leb-false _ _ e)
 
   in-kept : (k : ℕ) (f : List (List ℕ)) → Proper (inLine d k f .draft)
   unfolding inLine taken
@@ -97,8 +98,14 @@ module _ (d : Draft) (g : Proper d) where
       or-refused _ 26 d _ g λ e.
       or-refused _ 29 d _ g λ e.
       input-proper d g
-      (record { owner = unitNamed d (word f 1); name = word f 2; kind = kindOf (word f 3); source = unjoined; line = k })
-      (unit-low _ u) (kind-low (word f 3) w) refl (leb-false _ _ e)
+      (record {
+        owner = unitNamed d (word f 1);
+        name = word f 2;
+        kind = kindOf (word f 3);
+        source = unjoined;
+        line = k;
+      })
+      (known-low (d .units) _ u) (kind-low (word f 3) w) refl (leb-false _ _ e)
 
   feed-kept : (f : List (List ℕ)) → Proper (feedLine d f .draft)
   unfolding feedLine taken
@@ -112,8 +119,9 @@ module _ (d : Draft) (g : Proper d) where
       or-refused _ 32 d _ g λ n.
       or-refused _ 29 d _ g λ e.
       feed-proper d g (record { input = inputNamed d u (word f 2); output = outputNamed d u (word f 3) })
-      (input-low _ i) (output-low _ o)
-      (input-of u (word f 2) (input-low _ i) ∙ sym (output-of u (word f 3) (output-low _ o)))
+      (known-low (d .inputs) _ i) (known-low (d .outputs) _ o)
+      (input-of u (word f 2) (known-low (d .inputs) _ i)
+      ∙ sym (output-of u (word f 3) (known-low (d .outputs) _ o)))
       (feed-new _ _ n) (leb-false _ _ e)
 
   join-kept : (f : List (List ℕ)) → Proper (joinLine d f .draft)
@@ -126,14 +134,16 @@ module _ (d : Draft) (g : Proper d) where
       or-refused _ 27 d _ g λ b.
       or-refused _ 27 d _ g λ i.
       or-refused _ 30 d _ g λ e.
-      join-proper d g _ _ (input-low _ i) (output-low _ o)
+      join-proper d g _ _ (known-low (d .inputs) _ i) (known-low (d .outputs) _ o)
 
   pub line-kept : (k : ℕ) (f : List (List ℕ)) → Proper (line d k f .draft)
   unfolding line refused
-  line-kept k f = go (same (word f 0) _) (same (word f 0) _) (same (word f 0) _) (same (word f 0) _) (same (word f 0) _)
+  line-kept k f =
+      go (same (word f 0) _) (same (word f 0) _) (same (word f 0) _) (same (word f 0) _) (same (word f 0) _)
     where
       go : (a b c e h : Bool)
-          → Proper (cond a (unitLine d f) (cond b (outLine d f) (cond c (inLine d k f) (cond e (feedLine d f) (cond h (joinLine d f) (record { number = 24; draft = d }))))) .draft)
+          → Proper (cond a (unitLine d f) (cond b (outLine d f) (cond c (inLine d k f) (cond e (feedLine d f)
+          (cond h (joinLine d f) (record { number = 24; draft = d }))))) .draft)
       go true b c e h = unit-kept f
       go false true c e h = out-kept f
       go false false true e h = in-kept k f

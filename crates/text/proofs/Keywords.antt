@@ -1,10 +1,12 @@
 -- A line by its keyword.
 use Prim.Native.Nat.{ℕ}
-use mathlib.Core.Path.{_≡_, refl, sym, ap, subst, _∙_}
+use Prim.Native.String.{String}
+use mathlib.Core.Path.{_≡_, refl, sym, ap, _∙_}
 use mathlib.Core.Bool.{Bool, true, false, cond}
 use mathlib.Core.List.{List}
 use borrow.Author.Tests.{ne-eqb}
-use Rattle.grammar.specs.Words.{same, unit, out, inp, feed, join}
+use Rattle.grammar.specs.Quoted.{ascii}
+use Rattle.grammar.specs.Words.{same}
 use Rattle.grammar.specs.Rows.{word}
 use Rattle.grammar.specs.Draft.{Draft}
 use Rattle.grammar.specs.Lines.{Outcome, refused, line, unitLine, outLine, inLine, feedLine, joinLine}
@@ -21,12 +23,16 @@ byKeyword d n f k =
     (refused 24 d)))))
 
 module _ (d : Draft) (n : ℕ) (f : List (List ℕ)) where
+  abbrev is : String → Bool
+  is s = same (word f 0) (ascii s)
+
   by-keyword : line d n f ≡ byKeyword d n f (keywordOf (word f 0))
   unfolding line byKeyword keywordOf
-  by-keyword = go (same (word f 0) unit) (same (word f 0) out) (same (word f 0) inp) (same (word f 0) feed) (same (word f 0) join)
+  by-keyword = go (is "unit") (is "out") (is "in") (is "feed") (is "join")
     where
       go : (a b c e g : Bool)
-          → cond a (unitLine d f) (cond b (outLine d f) (cond c (inLine d n f) (cond e (feedLine d f) (cond g (joinLine d f) (refused 24 d)))))
+          → cond a (unitLine d f) (cond b (outLine d f) (cond c (inLine d n f) (cond e (feedLine d f)
+          (cond g (joinLine d f) (refused 24 d)))))
           ≡ byKeyword d n f (cond a 1 (cond b 2 (cond c 3 (cond e 4 (cond g 5 0)))))
       go true b c e g = refl
       go false true c e g = refl
@@ -59,6 +65,8 @@ module _ (d : Draft) (n : ℕ) (f : List (List ℕ)) where
     unfolding byKeyword
     line-join z = sym (line-is ∙ rw z)
 
-    pub line-none : (k ≡ 1 → ⊥) → (k ≡ 2 → ⊥) → (k ≡ 3 → ⊥) → (k ≡ 4 → ⊥) → (k ≡ 5 → ⊥) → refused 24 d ≡ line d n f
+    pub line-none : (k ≡ 1 → ⊥) → (k ≡ 2 → ⊥) → (k ≡ 3 → ⊥) → (k ≡ 4 → ⊥) → (k ≡ 5 → ⊥)
+        → refused 24 d ≡ line d n f
     unfolding byKeyword
-    line-none a b c g h = sym (line-is ∙ rw (ne-eqb k 1 a, ne-eqb k 2 b, ne-eqb k 3 c, ne-eqb k 4 g, ne-eqb k 5 h))
+    line-none a b c g h =
+        sym (line-is ∙ rw (ne-eqb k 1 a, ne-eqb k 2 b, ne-eqb k 3 c, ne-eqb k 4 g, ne-eqb k 5 h))

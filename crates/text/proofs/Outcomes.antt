@@ -1,13 +1,13 @@
--- From what the notes hold to what a line's definition asks: refusals, a line taken, and the tests of numbers.
+-- From what the notes hold to what a line's definition asks: refusals, a line taken, the tests of numbers.
 use Prim.Native.Nat.{ℕ, _≤_, _<_}
-use mathlib.Core.Path.{_≡_, ap, sym, _∙_}
-use mathlib.Core.Bool.{Bool, true, false}
+use mathlib.Core.Path.{_≡_, ap, _∙_}
+use mathlib.Core.Bool.{true, false}
 use mathlib.Core.List.{List}
 use native.Mathlib.Omega.{arith}
 use lib.ListN.{length, getD}
 use lib.Dec.{leb}
 use borrow.Author.Tests.{lt-ltb, le-ltb, le-leb, lt-leb}
-use Rattle.grammar.specs.Draft.{Draft, isUnit, isOutput, isInput, isFeed}
+use Rattle.grammar.specs.Draft.{Draft, known}
 use Rattle.grammar.specs.Lines.{Outcome, refused, taken}
 use Rattle.grammar.specs.Rows.{rowAt, word, fieldAt, wordEnd, stretch}
 use Rattle.grammar.specs.Lexed.{stretch-field}
@@ -40,36 +40,36 @@ module _ (t p s : List ℕ) (c : Counts) where
   -- ---- what is declared, and what is not
 
   module _ (u : ℕ) where
-    pub is-unit : u < c .units → isUnit (draftOf t p s c) u ≡ true
-    unfolding isUnit
+    pub is-unit : u < c .units → known (draftOf t p s c .units) u ≡ true
+    unfolding known
     is-unit h = lt-ltb u (length (draftOf t p s c .units)) (omega (arith, units-are t p s c))
 
-    pub no-unit : c .units ≤ u → isUnit (draftOf t p s c) u ≡ false
-    unfolding isUnit
+    pub no-unit : c .units ≤ u → known (draftOf t p s c .units) u ≡ false
+    unfolding known
     no-unit h = le-ltb u (length (draftOf t p s c .units)) (omega (arith, units-are t p s c))
 
-    pub is-output : u < c .outputs → isOutput (draftOf t p s c) u ≡ true
-    unfolding isOutput
+    pub is-output : u < c .outputs → known (draftOf t p s c .outputs) u ≡ true
+    unfolding known
     is-output h = lt-ltb u (length (draftOf t p s c .outputs)) (omega (arith, outputs-are t p s c))
 
-    pub no-output : c .outputs ≤ u → isOutput (draftOf t p s c) u ≡ false
-    unfolding isOutput
+    pub no-output : c .outputs ≤ u → known (draftOf t p s c .outputs) u ≡ false
+    unfolding known
     no-output h = le-ltb u (length (draftOf t p s c .outputs)) (omega (arith, outputs-are t p s c))
 
-    pub is-input : u < c .inputs → isInput (draftOf t p s c) u ≡ true
-    unfolding isInput
+    pub is-input : u < c .inputs → known (draftOf t p s c .inputs) u ≡ true
+    unfolding known
     is-input h = lt-ltb u (length (draftOf t p s c .inputs)) (omega (arith, inputs-are t p s c))
 
-    pub no-input : c .inputs ≤ u → isInput (draftOf t p s c) u ≡ false
-    unfolding isInput
+    pub no-input : c .inputs ≤ u → known (draftOf t p s c .inputs) u ≡ false
+    unfolding known
     no-input h = le-ltb u (length (draftOf t p s c .inputs)) (omega (arith, inputs-are t p s c))
 
-    pub is-feed : u < c .feeds → isFeed (draftOf t p s c) u ≡ true
-    unfolding isFeed
+    pub is-feed : u < c .feeds → known (draftOf t p s c .feeds) u ≡ true
+    unfolding known
     is-feed h = lt-ltb u (length (draftOf t p s c .feeds)) (omega (arith, feeds-are t p s c))
 
-    pub no-feed : c .feeds ≤ u → isFeed (draftOf t p s c) u ≡ false
-    unfolding isFeed
+    pub no-feed : c .feeds ≤ u → known (draftOf t p s c .feeds) u ≡ false
+    unfolding known
     no-feed h = le-ltb u (length (draftOf t p s c .feeds)) (omega (arith, feeds-are t p s c))
 
   -- a count that is, or is not, at its limit

@@ -1,22 +1,22 @@
 -- One law for each return of the lines that feed and join.
 use Prim.Native.Nat.{ℕ, _+_, _≤_, _<_}
-use mathlib.Core.Path.{_≡_, refl, ap, sym, _∙_}
-use mathlib.Core.Bool.{true, false, not}
+use mathlib.Core.Path.{_≡_, ap, _∙_}
 use mathlib.Core.List.{List}
 use native.Mathlib.Omega.{arith}
-use lib.ListN.{length, getD}
-use lib.Dec.{eqb, leb}
+use lib.ListN.{getD}
 use borrow.Author.Tests.{eq-eqb, ne-eqb}
 use Rattle.grammar.specs.Rows.{rowAt, word, fieldAt}
-use Rattle.grammar.specs.Draft.{Draft, Feed, unjoined, unitNamed, outputNamed, inputNamed, feedOf, sourceOf, addFeed, addJoin}
-use Rattle.grammar.specs.Lines.{refuse, refused, taken, feedLine, joinLine}
+use Rattle.grammar.specs.Draft.{Draft, unitNamed, outputNamed, inputNamed, feedOf}
+use Rattle.grammar.specs.Draft.{addFeed, addJoin}
+use Rattle.grammar.specs.Lines.{refuse, feedLine, joinLine}
 use Rattle.fields.specs.declared.Fields.{Fields}
 use Rattle.notes.specs.declared.Counts.{Counts}
 use Rattle.notes.specs.Notes.{draftOf, Fit, Stands}
 use Rattle.notes.proofs.Slots.{feeds-are, source-is}
 use Rattle.text.specs.Took.{Told, shapeOf, Took}
 use Rattle.text.proofs.Shape.{Lets, shape-lets, shape-stops}
-use Rattle.text.proofs.Outcomes.{stays, moves, is-unit, no-unit, is-output, no-output, is-input, no-input, is-feed, no-feed, full, space}
+use Rattle.text.proofs.Outcomes.{stays, moves, full, space, is-unit, no-unit, is-output, no-output}
+use Rattle.text.proofs.Outcomes.{is-input, no-input, is-feed, no-feed}
 
 module _ (t p s : List ℕ) (c : Counts) (fit : Fit t p s c) (a : ℕ) (l : Fields) (told : Told t a l) where
   abbrev d : Draft
@@ -47,7 +47,8 @@ module _ (t p s : List ℕ) (c : Counts) (fit : Fit t p s c) (a : ℕ) (l : Fiel
 
       pub feed-27-unit : c .units ≤ u → Took t p s (record { number = 27; counts = c }) (feedLine d f)
       unfolding feedLine refuse
-      feed-27-unit g = stays t p s c fit 27 (feedLine d f) (rw (h .counted, h .named, ← unit-is, no-unit t p s c u g))
+      feed-27-unit g =
+          stays t p s c fit 27 (feedLine d f) (rw (h .counted, h .named, ← unit-is, no-unit t p s c u g))
 
       module _ (g : u < c .units) (x : ℕ) (r : x ≡ inputNamed d u (at 2)) where
         input-is : x ≡ inputNamed d u (word f 2)
@@ -115,7 +116,8 @@ module _ (t p s : List ℕ) (c : Counts) (fit : Fit t p s c) (a : ℕ) (l : Fiel
                   → Stands t p r₁ m (addFeed d (record { input = x; output = y }))
                   → Took t p r₁ (record { number = 0; counts = m }) (feedLine d f)
               unfolding feedLine refuse
-              feed-taken w r₁ m st = moves t p r₁ m (addFeed d (record { input = x; output = y })) (feedLine d f) st
+              feed-taken w r₁ m st =
+                  moves t p r₁ m (addFeed d (record { input = x; output = y })) (feedLine d f) st
                   (rw (
                     h .counted,
                     h .named,
@@ -145,7 +147,9 @@ module _ (t p s : List ℕ) (c : Counts) (fit : Fit t p s c) (a : ℕ) (l : Fiel
 
       pub join-27-from : c .units ≤ u → Took t p s (record { number = 27; counts = c }) (joinLine d f)
       unfolding joinLine refuse
-      join-27-from g = stays t p s c fit 27 (joinLine d f) (rw (lets .counted, lets .named, ← from-unit, no-unit t p s c u g))
+      join-27-from g =
+          stays t p s c fit 27 (joinLine d f)
+          (rw (lets .counted, lets .named, ← from-unit, no-unit t p s c u g))
 
       module _ (g : u < c .units) (y : ℕ) (r : y ≡ outputNamed d u (at 2)) where
         from-output : y ≡ outputNamed d u (word f 2)
@@ -154,7 +158,14 @@ module _ (t p s : List ℕ) (c : Counts) (fit : Fit t p s c) (a : ℕ) (l : Fiel
         pub join-27-output : c .outputs ≤ y → Took t p s (record { number = 27; counts = c }) (joinLine d f)
         unfolding joinLine refuse
         join-27-output k = stays t p s c fit 27 (joinLine d f)
-            (rw (lets .counted, lets .named, ← from-unit, is-unit t p s c u g, ← from-output, no-output t p s c y k))
+            (rw (
+              lets .counted,
+              lets .named,
+              ← from-unit,
+              is-unit t p s c u g,
+              ← from-output,
+              no-output t p s c y k,
+            ))
 
         module _ (k : y < c .outputs) (v : ℕ) (o : v ≡ unitNamed d (at 3)) where
           to-unit : v ≡ unitNamed d (word f 3)
@@ -195,7 +206,8 @@ module _ (t p s : List ℕ) (c : Counts) (fit : Fit t p s c) (a : ℕ) (l : Fiel
                 ))
 
             module _ (w : x < c .inputs) where
-              pub join-30 : (getD s (544 + x) 0 ≡ 255 → ⊥) → Took t p s (record { number = 30; counts = c }) (joinLine d f)
+              pub join-30 : (getD s (544 + x) 0 ≡ 255 → ⊥)
+                  → Took t p s (record { number = 30; counts = c }) (joinLine d f)
               unfolding joinLine refuse
               join-30 n = stays t p s c fit 30 (joinLine d f)
                   (rw (

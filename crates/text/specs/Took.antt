@@ -5,7 +5,8 @@ use mathlib.Core.Bool.{not, cond}
 use mathlib.Core.List.{List}
 use lib.ListN.{length}
 use lib.Dec.{eqb, ltb}
-use Rattle.grammar.specs.Words.{same, unit, out, inp, feed, join}
+use Rattle.grammar.specs.Quoted.{ascii}
+use Rattle.grammar.specs.Words.{same}
 use Rattle.grammar.specs.Lines.{Outcome, faulty}
 use Rattle.grammar.specs.Lexed.{Lexed}
 use Rattle.fields.specs.declared.Fields.{Fields}
@@ -23,11 +24,11 @@ shapeOf f count names = cond (not (eqb (length f) count)) 24 (cond (ltb 0 (fault
 -- 1 `unit`, 2 `out`, 3 `in`, 4 `feed`, 5 `join`, 0 another word
 unfoldable pub keywordOf : List ℕ → ℕ
 keywordOf w =
-    cond (same w unit) 1
-    (cond (same w out) 2
-    (cond (same w inp) 3
-    (cond (same w feed) 4
-    (cond (same w join) 5 0))))
+    cond (same w (ascii "unit")) 1
+    (cond (same w (ascii "out")) 2
+    (cond (same w (ascii "in")) 3
+    (cond (same w (ascii "feed")) 4
+    (cond (same w (ascii "join")) 5 0))))
 
 -- the number is the outcome's, and the notes stand for its draft
 pub record Took (t p s : List ℕ) (r : Taken) (o : Outcome) : Type 0 where

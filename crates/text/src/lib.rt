@@ -1,7 +1,8 @@
 // Reading a text table.
+ghost use mathlib.Core.Path.{_≡_};
 ghost use lib.ListN.{length};
+ghost use Rattle.search.specs.Front.{fronted};
 ghost use Rattle.grammar.specs.Reading.{reading};
-ghost use Rattle.text.specs.Walked.{Answered};
 
 mod draft;
 mod lines;
@@ -34,7 +35,12 @@ pub struct Answer {
 
 // Reads a text of any bytes into a packed table, at the front of a buffer of any size.
 pub fn read(text: &[u8], out: &mut [u8]) -> Answer
-    ensures { λ r. ⌜ Answered (reading (length (now (out .entry))) (now (text .entry))) (now (out .entry)) (now (out .exit)) r ⌝ }
+    ensures { λ r. ⌜ r ≡ record {
+      number = reading (length (now (out .entry))) (now (text .entry)) .number;
+      place = reading (length (now (out .entry))) (now (text .entry)) .place;
+    } ⌝ }
+    ensures { λ r. ⌜ now (out .exit)
+        ≡ fronted (reading (length (now (out .entry))) (now (text .entry)) .bytes) (now (out .entry)) ⌝ }
 {
     let mut places = [0u16; 320];
     let mut slots = [0u8; 896];

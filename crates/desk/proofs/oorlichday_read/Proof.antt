@@ -13,7 +13,7 @@ same-length : tie.Need-same-length
 same-length c = search needs
 
 returns : tie.Need-returns
-returns c = record { answer = ap (λ (a : Answer). (let r : Reading = record { number = a .number; place = a .place } in r)) (c .before .before .read .ensures .answer); bytes = c .before .before .read .ensures .bytes }
+returns c = record { answer = ap (λ (a : Answer). (let r : Reading = record { number = a .number; place = a .place } in r)) (c .before .before .read .ensures .0); bytes = c .before .before .read .ensures .1 }
 
 pub oorlichday-read-spec : {M : Type 1} → statement M
 oorlichday-read-spec = tie.close (tie.spec read-requires same-length returns)
