@@ -44,7 +44,7 @@ pub fn check(text: &[u8]) -> Answer
     }
 }
 
-// The version that the first line names, or 0.
+// 1 where the first line is exactly `cosim`, `1`, else 0.
 pub fn version(text: &[u8], fields: Fields) -> u8
     requires { ⌜ Told (now text) 0 fields ⌝ }
     ensures { λ r. ⌜ r ≡ versionOf (rowAt (now (text .entry)) 0) ⌝ }
