@@ -15,7 +15,7 @@ use Rattle.notes.specs.declared.Counts.{Counts}
 use Rattle.notes.specs.Notes.{draftOf, Fit, Stands}
 use Rattle.notes.proofs.Slots.{units-are, outputs-are, inputs-are}
 use Rattle.text.specs.Took.{Told, shapeOf, Took}
-use Rattle.text.proofs.Shape.{Lets, shape-lets, shape-stops}
+use Rattle.text.proofs.Counted.{Lets, shape-lets, shape-stops}
 use Rattle.text.proofs.Outcomes.{stays, moves, is-unit, no-unit, is-output, no-output, is-input, no-input, full, space}
 
 module _ (t p s : List ℕ) (c : Counts) (fit : Fit t p s c) (a : ℕ) (l : Fields) (told : Told t a l) where

@@ -1,4 +1,4 @@
-pub mod Shape
+pub mod Counted
 pub mod Outcomes
 pub mod Declared
 pub mod Wired

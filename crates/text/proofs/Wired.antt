@@ -14,7 +14,7 @@ use Rattle.notes.specs.declared.Counts.{Counts}
 use Rattle.notes.specs.Notes.{draftOf, Fit, Stands}
 use Rattle.notes.proofs.Slots.{feeds-are, source-is}
 use Rattle.text.specs.Took.{Told, shapeOf, Took}
-use Rattle.text.proofs.Shape.{Lets, shape-lets, shape-stops}
+use Rattle.text.proofs.Counted.{Lets, shape-lets, shape-stops}
 use Rattle.text.proofs.Outcomes.{stays, moves, full, space, is-unit, no-unit, is-output, no-output}
 use Rattle.text.proofs.Outcomes.{is-input, no-input, is-feed, no-feed}
 

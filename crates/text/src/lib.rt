@@ -4,11 +4,14 @@ ghost use lib.ListN.{length};
 ghost use Rattle.search.specs.Front.{fronted};
 ghost use Rattle.grammar.specs.Reading.{reading};
 
+mod declares;
 mod draft;
+mod joins;
 mod lines;
 mod names;
 mod noting;
 mod pack;
+mod shape;
 mod walk;
 mod whole;
 

@@ -1,13 +1,13 @@
 -- The loop keeps that the fields passed over are names.
-use Rattle.text.proofs.lines.faulty.Statement.{statement}
-use Rattle.text.proofs.lines.faulty.Tie as tie
+use Rattle.text.proofs.shape.faulty.Statement.{statement}
+use Rattle.text.proofs.shape.faulty.Tie as tie
 use borrow.Author.Needs.{needs}
 use Prim.Native.Nat.{_-_, _+_, _≤_}
 use mathlib.Core.Path.{_≡_, refl}
 use native.Mathlib.Omega.{arith}
 use Rattle.grammar.specs.Rows.{rowAt}
 use Rattle.grammar.specs.Lines.{faulty}
-use Rattle.text.proofs.Shape.{faulty-first, faulty-on, no-name-empty, no-name-long, a-name, field-size, faulty-none}
+use Rattle.text.proofs.Counted.{faulty-first, faulty-on, no-name-empty, no-name-long, a-name, field-size, faulty-none}
 
 abbrev Inv-loop : tie.InvT-loop
 Inv-loop text at names fields i₀ i = (i ≤ names) × (faulty (rowAt text at) i ≡ 0)

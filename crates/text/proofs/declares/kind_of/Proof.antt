@@ -1,7 +1,7 @@
 -- The two words one after the other.
 use borrow.Author.Needs.{needs}
-use Rattle.text.proofs.lines.kind_of.Statement.{statement}
-use Rattle.text.proofs.lines.kind_of.Tie as tie
+use Rattle.text.proofs.declares.kind_of.Statement.{statement}
+use Rattle.text.proofs.declares.kind_of.Tie as tie
 use mathlib.Core.Path.{sym, _∙_}
 use Rattle.grammar.specs.Lines.{kindOf}
 

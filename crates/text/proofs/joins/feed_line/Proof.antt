@@ -1,7 +1,7 @@
 -- One law for each return.
 use borrow.Author.Needs.{needs}
-use Rattle.text.proofs.lines.feed_line.Statement.{statement}
-use Rattle.text.proofs.lines.feed_line.Tie as tie
+use Rattle.text.proofs.joins.feed_line.Statement.{statement}
+use Rattle.text.proofs.joins.feed_line.Tie as tie
 use Rattle.text.proofs.Wired.{feed-stops, feed-27-unit, feed-27-input, feed-27-output, feed-32, feed-29, feed-taken}
 use native.Mathlib.Omega.{arith}
 

@@ -1,7 +1,7 @@
 -- One law for each return.
 use borrow.Author.Needs.{needs}
-use Rattle.text.proofs.lines.unit_line.Statement.{statement}
-use Rattle.text.proofs.lines.unit_line.Tie as tie
+use Rattle.text.proofs.declares.unit_line.Statement.{statement}
+use Rattle.text.proofs.declares.unit_line.Tie as tie
 use Rattle.text.proofs.Declared.{unit-stops, unit-26, unit-29, unit-taken}
 
 shape-requires : tie.Need-shape-requires

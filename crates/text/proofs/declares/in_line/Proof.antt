@@ -1,12 +1,12 @@
 -- One law for each return; the kind word is the field between its ends.
 use borrow.Author.Needs.{needs}
-use Rattle.text.proofs.lines.in_line.Statement.{statement}
-use Rattle.text.proofs.lines.in_line.Tie as tie
+use Rattle.text.proofs.declares.in_line.Statement.{statement}
+use Rattle.text.proofs.declares.in_line.Tie as tie
 use mathlib.Core.Path.{ap, _∙_}
 use native.Mathlib.Omega.{arith}
 use Rattle.grammar.specs.Rows.{stretch}
 use Rattle.grammar.specs.Lines.{kindOf}
-use Rattle.text.proofs.Shape.{has-field}
+use Rattle.text.proofs.Counted.{has-field}
 use Rattle.text.proofs.Outcomes.{word-here, word-ends}
 use Rattle.text.proofs.Declared.{in-stops, in-28, in-27, in-26, in-29, in-taken}
 

@@ -1,7 +1,7 @@
 -- 24, then 25, by the fields that are told.
-use Rattle.text.proofs.lines.shape.Statement.{statement}
-use Rattle.text.proofs.lines.shape.Tie as tie
-use Rattle.text.proofs.Shape.{shape-count, shape-name, shape-good}
+use Rattle.text.proofs.shape.shape.Statement.{statement}
+use Rattle.text.proofs.shape.shape.Tie as tie
+use Rattle.text.proofs.Counted.{shape-count, shape-name, shape-good}
 use native.Mathlib.Omega.{arith}
 
 returns : tie.Need-returns

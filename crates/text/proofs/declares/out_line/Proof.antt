@@ -1,7 +1,7 @@
 -- One law for each return.
 use borrow.Author.Needs.{needs}
-use Rattle.text.proofs.lines.out_line.Statement.{statement}
-use Rattle.text.proofs.lines.out_line.Tie as tie
+use Rattle.text.proofs.declares.out_line.Statement.{statement}
+use Rattle.text.proofs.declares.out_line.Tie as tie
 use Rattle.text.proofs.Declared.{out-stops, out-27, out-26, out-29, out-taken}
 use native.Mathlib.Omega.{arith}
 

@@ -1,7 +1,7 @@
 -- One law for each return.
 use borrow.Author.Needs.{needs}
-use Rattle.text.proofs.lines.join_line.Statement.{statement}
-use Rattle.text.proofs.lines.join_line.Tie as tie
+use Rattle.text.proofs.joins.join_line.Statement.{statement}
+use Rattle.text.proofs.joins.join_line.Tie as tie
 use Rattle.text.proofs.Wired.{join-stops, join-27-from, join-27-output, join-27-to, join-27-input, join-30, join-taken}
 use native.Mathlib.Omega.{arith}
 
