@@ -3,7 +3,7 @@ use mathlib.Core.Bool.{Bool}
 use mathlib.Core.List.{List}
 use Prim.Native.Nat.{ℕ}
 use Rattle.table.specs.Packed.{shapeOf}
-use Rattle.table.specs.Determined.{Determined, same-answer}
+use Rattle.search.specs.Determined.{Determined, same-answer}
 use Rattle.calls.specs.declared.Call.{Call}
 use Rattle.calls.specs.Number.{callIn, callOf}
 use Rattle.calls.specs.Precedence.{precedes}

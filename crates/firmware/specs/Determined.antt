@@ -2,7 +2,7 @@
 use mathlib.Core.List.{List}
 use Prim.Native.Nat.{ℕ}
 use Rattle.table.specs.Check.{checked}
-use Rattle.table.specs.Determined.{Determined, same-answer}
+use Rattle.search.specs.Determined.{Determined, same-answer}
 use Rattle.search.specs.Front.{fronted}
 use Rattle.judging.specs.Verdict.{verdictOf}
 use Rattle.sorter.specs.Ordering.{ordering}

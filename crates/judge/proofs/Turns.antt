@@ -28,7 +28,7 @@ use Rattle.judging.specs.Judged.{verdict-on, verdict-off, verdict-sound, verdic
 use Rattle.judge.specs.declared.Run.{Run}
 use Rattle.judge.specs.declared.Taken.{Taken}
 use Rattle.judge.specs.Marks.{marks, marks-none, marks-set}
-use Rattle.judge.specs.Taken.{settled, taken}
+use Rattle.judge.specs.Taken.{advanced, taken}
 
 -- a byte fits a word
 pub byte-fits : (x : ℕ) → x < 2 ^ 8 → Fits w64 x
@@ -51,17 +51,17 @@ taken-small t z done c n e o =
 module _ (t : List ℕ) (run : Run) (c n : ℕ) where
   pub take-unsound : n ≡ refusal t → (n ≡ 0 → ⊥)
       → _≡_ {A = Taken} (record { run = run; number = n }) (taken t run c)
-  unfolding taken settled
+  unfolding taken advanced
   take-unsound e h = rw (← e, ne-eqb n 0 h, ne-eqb n 0 h)
 
   module _ (sound : refusal t ≡ 0) (e : n ≡ refusalAt (shapeOf t) (marks (run .done)) c) where
     pub take-refused : (n ≡ 0 → ⊥) → _≡_ {A = Taken} (record { run = run; number = n }) (taken t run c)
-    unfolding taken settled
+    unfolding taken advanced
     take-refused h = rw (eq-eqb (refusal t) 0 sound, ← e, ne-eqb n 0 h)
 
     pub take-taken : n ≡ 0
         → _≡_ {A = Taken} (record { run = record { done = set (run .done) c true }; number = 0 }) (taken t run c)
-    unfolding taken settled
+    unfolding taken advanced
     take-taken h = rw (eq-eqb (refusal t) 0 sound, ← e, eq-eqb n 0 h)
 
 -- ---- the calls of an order in turn

@@ -16,12 +16,12 @@ unfoldable pub fresh : Run
 fresh = record { done = replicate 224 false }
 
 -- the next state with 0, or the state it had with the number of the refusal
-unfoldable pub settled : Run → ℕ → ℕ → Taken
-settled run c n =
+unfoldable pub advanced : Run → ℕ → ℕ → Taken
+advanced run c n =
     cond (eqb n 0) (record { run = record { done = set (run .done) c true }; number = 0 })
     (record { run = run; number = n })
 
 -- an unsound table is refused first, by 1 to 7, then the call by 11 to 17
 unfoldable pub taken : List ℕ → Run → ℕ → Taken
 taken t run c =
-    settled run c (cond (eqb (refusal t) 0) (refusalAt (shapeOf t) (marks (run .done)) c) (refusal t))
+    advanced run c (cond (eqb (refusal t) 0) (refusalAt (shapeOf t) (marks (run .done)) c) (refusal t))

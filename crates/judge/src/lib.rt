@@ -65,7 +65,7 @@ impl Run {
     }
 }
 
-// The calls of an order in turn on a sound table: the first refusal, 18 where fewer than N calls were taken, or 0.
+// The calls of an order in turn on a sound table: the first refusal, 18 where not N calls were taken, or 0.
 fn in_turn(table: &[u8], order: &[u8]) -> Answer
     requires { ⌜ refusal (now table) ≡ 0 ⌝ }
     ensures { λ r. ⌜ r ≡ verdictFrom (shapeOf (now (table .entry))) none (now (order .entry)) 0 ⌝ }

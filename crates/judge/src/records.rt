@@ -29,7 +29,7 @@ pub struct Judged {
     pub place: usize,
 }
 
-// The number so far into a range of this count that begins at `first`; `none` where it is not below the count.
+// `first` + `number` where the number is below the count, else `none`.
 fn within(number: usize, count: usize, first: usize, none: usize) -> usize
     requires { ⌜ first + number < 1000 ⌝ }
     ensures { λ r. ⌜ r ≡ cond (ltb number count) (first + number) none ⌝ }

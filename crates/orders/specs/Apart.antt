@@ -30,7 +30,7 @@ module _ (N : ℕ) (pred : ℕ → ℕ → Bool) (l : List ℕ) (k : Keeps N pre
   -- an order that keeps the rules and a cycle exclude each other
   pub apart : ⊥
   apart =
-      let h0 = cy .some in
+      let h0 = cy .any in
       let h1 : length cs - 1 < length cs = omega arith in
       let (p, hp, ep) = k .holds (getD cs 0 0) (cy .calls 0 h0) in
       let (q, hq, eq) = k .holds (getD cs (length cs - 1) 0) (cy .calls (length cs - 1) h1) in

@@ -8,7 +8,7 @@ use lib.ListN.{length, getD}
 module _ (N : ℕ) (pred : ℕ → ℕ → Bool) where
   -- "a list of one or more calls, each a direct predecessor of the next and the last of the first"
   pub record Cycle (l : List ℕ) : Type 0 where
-    pub some : 0 < length l
+    pub any : 0 < length l
     pub calls : (i : ℕ) → i < length l → getD l i 0 < N
     pub next : (i : ℕ) → suc i < length l → T (pred (getD l i 0) (getD l (suc i) 0))
     pub last : T (pred (getD l (length l - 1) 0) (getD l 0 0))

@@ -7,11 +7,11 @@ use lib.ListN.{length, getD}
 use Rattle.orders.specs.Keeps.{Keeps}
 
 -- "compared place by place": where the two agree at every place before i, l has no higher number at i
-abbrev pub Before : List ℕ → List ℕ → Type 0
-Before l m =
+abbrev pub NoLater : List ℕ → List ℕ → Type 0
+NoLater l m =
     (i : ℕ) → i < length l → ((j : ℕ) → j < i → getD l j 0 ≡ getD m j 0) → getD l i 0 ≤ getD m i 0
 
--- "the one that comes first among all lists that hold each of the N calls once and keep the rules"
+-- "the one that comes first .. among all lists that hold each of the N calls once and keep the rules"
 pub record First (N : ℕ) (pred : ℕ → ℕ → Bool) (l : List ℕ) : Type 0 where
   pub keeps : Keeps N pred l
-  pub least : (m : List ℕ) → Keeps N pred m → Before l m
+  pub least : (m : List ℕ) → Keeps N pred m → NoLater l m

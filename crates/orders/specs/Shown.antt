@@ -37,11 +37,11 @@ module _ (N : ℕ) (pred : ℕ → ℕ → Bool) where
       let m = met N pred done in
       let (c, hc, t) = left-one N pred h in
       let cy = met-is N pred done (placed-stuck N pred h) c hc t in
-      let p = lowestPlace-is N m (cy .some) (cy .calls) .0 in
+      let p = lowestPlace-is N m (cy .any) (cy .calls) .0 in
       let e = turn-length (lowestPlace N m) m p in
       record {
         cycle = turn-cycle (lowestPlace N m) m p N pred cy;
-        lowest = λ i hi. lowest-first N m (cy .some) (cy .calls) i (omega arith);
+        lowest = λ i hi. lowest-first N m (cy .any) (cy .calls) i (omega arith);
         once = turn-once (lowestPlace N m) m p
             (new-once m (walk-new N pred done (suc N) [] (lowestLeft N pred done) tt));
       }

@@ -14,7 +14,7 @@ use Rattle.search.specs.Every.{some, some-no, some-found, found-some}
 use Rattle.search.specs.Least.{leastFrom, lowest-is}
 use Rattle.search.specs.Count.{count, count-none, count-add, count-full}
 use Rattle.orders.specs.Keeps.{Keeps}
-use Rattle.orders.specs.First.{Before, First}
+use Rattle.orders.specs.First.{NoLater, First}
 use Rattle.orders.specs.Follows.{Follows, keeps→follows, follows→keeps}
 use Rattle.orders.specs.Sort.{lacks, ready, nextCall, sort, placed}
 
@@ -101,8 +101,8 @@ module _ (N : ℕ) (pred : ℕ → ℕ → Bool) where
   ]
 
   before-cons : (done : ℕ → Bool) (c : ℕ) → Next done c → c < N → (l : List ℕ)
-      → ((m : List ℕ) → Follows N pred (add c done) m → Before l m)
-      → (m : List ℕ) → Follows N pred done m → Before (c ∷ l) m
+      → ((m : List ℕ) → Follows N pred (add c done) m → NoLater l m)
+      → (m : List ℕ) → Follows N pred done m → NoLater (c ∷ l) m
   before-cons done c n hc l ih [] g i h same = absurd (clash (done c) (g c hc) (n .is hc .0))
   before-cons done c n hc l ih (x ∷ m) g zero h same = n .least x (g .1, g .2) (g .0)
   before-cons done c n hc l ih (x ∷ m) g (suc i) h same =
@@ -110,7 +110,7 @@ module _ (N : ℕ) (pred : ℕ → ℕ → Bool) where
       ih m (rw e (g .3)) i (omega arith) (λ j hj. same (suc j) (omega arith))
 
   sort-before : (n : ℕ) (done : ℕ → Bool) (m : List ℕ) → Follows N pred done m
-      → Before (sort N pred n done) m
+      → NoLater (sort N pred n done) m
   unfolding sort
   sort-before zero done m g = λ i h same. absurd (omega arith)
   sort-before (suc n) done m g = elim (decLt (nextCall N pred done) N) [

@@ -96,10 +96,10 @@ module _ (k : ℕ) (cs : List ℕ) (h : k < length cs) where
     turn-cycle =
         let e = turn-length in
         record {
-          some = rw e (cy .some);
+          any = rw e (cy .any);
           calls = λ i hi. let (j, hj, w, q) = from i (omega arith) in rw q (cy .calls j hj);
           next = λ i hi. turn-next i (omega arith);
-          last = rw e (turn-last (length cs - 1) (omega (arith, cy .some)));
+          last = rw e (turn-last (length cs - 1) (omega (arith, cy .any)));
         }
 
 -- ---- the lowest call of a list, and its place

@@ -8,10 +8,10 @@ use native.Mathlib.Decide.{ℕ-discrete}
 use native.Mathlib.Nat.{le-antisymm}
 use lib.ListN.{length, getD}
 use lib.Seq.{ext-getD}
-use Rattle.orders.specs.First.{Before, First}
+use Rattle.orders.specs.First.{NoLater, First}
 use Rattle.orders.specs.Apart.{keeps-length}
 
-module _ (l m : List ℕ) (b : Before l m) (b′ : Before m l) (e : length l ≡ length m) where
+module _ (l m : List ℕ) (b : NoLater l m) (b′ : NoLater m l) (e : length l ≡ length m) where
   agree : (i : ℕ) → i ≤ length l → (j : ℕ) → j < i → getD l j 0 ≡ getD m j 0
   agree zero h j hj = absurd (omega arith)
   agree (suc i) h j hj = go (agree i (omega arith))

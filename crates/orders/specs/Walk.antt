@@ -21,7 +21,8 @@ module _ (N : ℕ) (pred : ℕ → ℕ → Bool) (done : ℕ → Bool) where
   unfoldable pub lowestBefore : ℕ → ℕ
   lowestBefore c = leastFrom (lacks pred done c) N 0
 
-  -- "until a call is met a second time"; seen has the newest first, so it stands in precedence order
+  -- "until a call is met a second time"; seen has the newest first, so it stands in precedence order;
+  -- n bounds the visits: of N + 1 calls one is met again
   unfoldable pub walk : ℕ → List ℕ → ℕ → List ℕ
   walk zero seen c = []
   walk (suc n) seen c =

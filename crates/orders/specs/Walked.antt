@@ -95,7 +95,7 @@ module _ (N : ℕ) (pred : ℕ → ℕ → Bool) where
       let e = upto-ends c seen t in
       let k′ = upto-chain c c seen k in
       record {
-        some = e .0;
+        any = e .0;
         calls = chain-calls c (upto c seen) k′;
         next = chain-next c (upto c seen) k′;
         last = rw (e .1) (upto-head c c seen k t);

@@ -26,7 +26,7 @@ callCount t = total (shapeOf t)
 unfoldable pub placedOf : List ℕ → List ℕ
 placedOf t = placed (callCount t) (precedes (shapeOf t))
 
--- 1 to 7; then 8 where there is no room for N calls; then 0 with how many were placed
+-- 1 to 7; then 8 where there is no room for N calls; then 0 with how many were placed, under N where there is a cycle
 unfoldable pub placing : List ℕ → ℕ → Outcome
 placing t room =
     cond (eqb (refusal t) 0)

@@ -85,7 +85,7 @@ fn place_ready(table: &[u8], count: usize, calls: &mut [u8]) -> usize
     k
 }
 
-// Places all that can be placed: 1 to 7, 8 where `calls` is under N bytes, or 0 with how many.
+// Places all that can be placed: 1 to 7, 8 where `calls` is under N bytes, or 0 with how many, under N at a cycle.
 pub fn place_all(table: &[u8], calls: &mut [u8]) -> Answer
     ensures { λ r. ⌜ r ≡ placing (now (table .entry)) (length (now (calls .entry))) .answer ⌝ }
     ensures { λ r. ⌜ now (calls .exit)

@@ -102,7 +102,7 @@ module _ (d : Draft) (g : Proper d) (some : 0 < length (d .units))
   pub packed-sound : Sound (packed d)
   unfolding packed units outputs inputs feeds
   packed-sound = record {
-    some = omega arith;
+    four = omega arith;
     counted = record {
       units-some = some;
       units-most = g .units-most;

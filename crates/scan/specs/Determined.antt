@@ -1,5 +1,12 @@
--- Any two answers that the contract of a public function permits are equal: each contract is `r ≡ f input`.
-use mathlib.Core.Path.{_≡_, sym, _∙_}
+-- Any two answers that the contract of a public function permits are equal.
+use Prim.Native.Nat.{ℕ}
+use mathlib.Core.List.{List}
+use Rattle.search.specs.Determined.{Determined, same-answer}
+use Rattle.grammar.specs.Words.{lf}
+use Rattle.grammar.specs.Rows.{times, firstBad}
 
-pub same-answer : {A : Type 0} {value : A} (a b : A) → a ≡ value → b ≡ value → a ≡ b
-same-answer a b p q = p ∙ sym q
+pub first-bad-determined : (t : List ℕ) → Determined ℕ (firstBad t)
+first-bad-determined t = same-answer
+
+pub line-ends-determined : (t : List ℕ) → Determined ℕ (times lf t)
+line-ends-determined t = same-answer

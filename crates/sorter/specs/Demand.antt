@@ -57,7 +57,7 @@ module _ (t : List ℕ) (room : ℕ) (sound : Sound t) (enough : callCount t ≤
       let c = cycle-shown n in (
         ordering-settled t room (sound-passed t sound) enough
             ∙ settled-some t n
-            ∙ stopped-shown t (λ z. omega (arith, c .cycle .some)),
+            ∙ stopped-shown t (λ z. omega (arith, c .cycle .any)),
         c,
       )
 

@@ -15,7 +15,7 @@ use Rattle.placing.specs.Placing.{Outcome, outcome, callCount, placedOf}
 unfoldable pub shownOf : List ℕ → List ℕ
 shownOf t = shown (callCount t) (precedes (shapeOf t)) (among (placedOf t))
 
--- 9 with the cycle's length; 10 "nothing ready and no cycle found", which no table gives (Demand)
+-- 9 with the cycle's length; 10 "nothing ready and no cycle found", which no table gives (`order-else` of Demand)
 unfoldable pub stopped : List ℕ → Outcome
 stopped t =
     cond (eqb (length (shownOf t)) 0) (outcome 10 0 []) (outcome 9 (length (shownOf t)) (shownOf t))

@@ -37,7 +37,7 @@ fn write_met(seen: &[u8], call: u8, count: u8, out: &mut [u8]) -> usize
 }
 
 // Writes the cycle of what remains at the front of `out`; gives its length, 0 where the walk meets none.
-// The list of the `placed` calls is the walk's path once they are marked.
+// `calls` holds the placed calls; once they are marked it serves as the walk's path.
 fn show_cycle(table: &[u8], count: usize, placed: usize, calls: &mut [u8], out: &mut [u8]) -> usize
     requires { ⌜ Sound (now table) ⌝ }
     requires { ⌜ count ≡ callCount (now table) ⌝ }
@@ -59,7 +59,7 @@ fn show_cycle(table: &[u8], count: usize, placed: usize, calls: &mut [u8], out: 
     write_met(&calls[at..], call as u8, count as u8, out)
 }
 
-// The first order at the front of `out`, or the cycle shown there, or a refusal that writes nothing.
+// The first order at the front of `out`, or the cycle shown there, or another refusal, which writes nothing.
 pub fn order(table: &[u8], out: &mut [u8]) -> Answer
     ensures { λ r. ⌜ r ≡ ordering (now (table .entry)) (length (now (out .entry))) .answer ⌝ }
     ensures { λ r. ⌜ now (out .exit)

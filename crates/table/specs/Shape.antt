@@ -1,4 +1,4 @@
--- A table as a shape: what every room above sees of it, however its bytes are packed.
+-- A table as a shape: what every definition above sees of it, however its bytes are packed.
 use mathlib.Core.Path.{_≡_}
 use Prim.Native.Nat.{ℕ, _+_, _≤_, _<_}
 
