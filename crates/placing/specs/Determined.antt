@@ -6,7 +6,8 @@ use lib.ListN.{length}
 use Rattle.search.specs.Front.{fronted}
 use Rattle.table.specs.declared.Answer.{Answer}
 use Rattle.table.specs.Determined.{same-answer}
-use Rattle.placing.specs.Placing.{Outcome, placing}
+use Rattle.table.specs.Outcome.{Outcome}
+use Rattle.placing.specs.Placing.{placing}
 
 pub place-all-determined : (t calls : List ℕ) (a b : Answer) → a ≡ placing t (length calls) .answer
     → b ≡ placing t (length calls) .answer → a ≡ b

@@ -1,14 +1,14 @@
 -- Demand 2, first half: for a sound table and enough room, an order exactly where no cycle exists, else a cycle.
 use mathlib.Core.Path.{_≡_, refl, sym, ap, _∙_}
 use mathlib.Core.Logic.{_↔_}
-use mathlib.Core.Bool.{true, false, cond}
+use mathlib.Core.Bool.{Bool, true, false, cond}
 use mathlib.Core.List.{List, []}
 use Prim.Native.Nat.{ℕ, _≤_, _<_}
 use native.Mathlib.Omega.{arith}
 use native.Mathlib.Decide.{ℕ-discrete}
-use lib.Dec.{eqb}
+use lib.Dec.{eqb, leb}
 use lib.ListN.{length}
-use borrow.Author.Tests.{le-leb, lt-leb}
+use borrow.Author.Tests.{le-leb, lt-leb, eqb-true}
 use Rattle.search.specs.Truth.{is-true, is-false, eq-true, eq-false}
 use Rattle.table.specs.Sound.{Sound}
 use Rattle.table.specs.Packed.{shapeOf}
@@ -22,7 +22,8 @@ use Rattle.orders.specs.Sort.{placed}
 use Rattle.orders.specs.Sorted.{placed-first}
 use Rattle.orders.specs.Remains.{placed-le}
 use Rattle.orders.specs.Shown.{Shown, shown-is, placed-iff}
-use Rattle.placing.specs.Placing.{Outcome, outcome, callCount, placedOf}
+use Rattle.table.specs.Outcome.{Outcome, outcome}
+use Rattle.placing.specs.Placing.{callCount, placedOf}
 use Rattle.sorter.specs.Ordering.{shownOf, stopped, settled, ordering}
 
 -- ---- what is answered, case by case
@@ -57,6 +58,29 @@ module _ (t : List ℕ) where
   pub stopped-shown : (length (shownOf t) ≡ 0 → ⊥) → stopped t ≡ outcome 9 (length (shownOf t)) (shownOf t)
   unfolding stopped
   stopped-shown n = rw (is-false (eqb (length (shownOf t)) 0) (eq-false (length (shownOf t)) 0 n))
+
+abbrev Long : Outcome → Type 0
+Long o = o .answer .place ≡ length (o .bytes)
+
+-- the place tells how many bytes are written
+pub ordering-long : (t : List ℕ) (room : ℕ) → ordering t room .answer .place ≡ length (ordering t room .bytes)
+unfolding ordering settled stopped
+ordering-long t room =
+    go (eqb (refusal t) 0) (leb (callCount t) room) (eqb (length (placedOf t)) (callCount t)) refl
+    (eqb (length (shownOf t)) 0)
+  where
+    go : (a b c : Bool) → eqb (length (placedOf t)) (callCount t) ≡ c → (d : Bool) → Long
+        (cond a
+        (cond b
+        (cond c (outcome 0 (callCount t) (placedOf t))
+        (cond d (outcome 10 0 []) (outcome 9 (length (shownOf t)) (shownOf t))))
+        (outcome 8 0 []))
+        (outcome (refusal t) 0 []))
+    go false b c e d = refl
+    go true false c e d = refl
+    go true true true e d = sym (eqb-true _ _ e)
+    go true true false e true = refl
+    go true true false e false = refl
 
 -- ---- the demand
 module _ (t : List ℕ) (room : ℕ) (sound : Sound t) (enough : callCount t ≤ room) where

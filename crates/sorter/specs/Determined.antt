@@ -6,7 +6,7 @@ use lib.ListN.{length}
 use Rattle.search.specs.Front.{fronted}
 use Rattle.table.specs.declared.Answer.{Answer}
 use Rattle.table.specs.Determined.{same-answer}
-use Rattle.placing.specs.Placing.{Outcome}
+use Rattle.table.specs.Outcome.{Outcome}
 use Rattle.sorter.specs.Ordering.{ordering}
 
 pub order-determined : (t out : List ℕ) (a b : Answer) → a ≡ ordering t (length out) .answer

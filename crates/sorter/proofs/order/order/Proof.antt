@@ -9,7 +9,7 @@ use lib.ListN.{length}
 use lib.Seq.{length-take-le}
 use Rattle.search.specs.Front.{fronted}
 use Rattle.table.specs.Checked.{passed-sound, few-calls}
-use Rattle.placing.specs.Placing.{Outcome}
+use Rattle.table.specs.Outcome.{Outcome}
 use Rattle.sorter.specs.Demand.{ordering-unsound}
 use Rattle.sorter.proofs.Joined.{place-is, not-refused, refused, refused-answer, calls-are, calls-long, placed-most, order-short, order-all, order-none, order-cycle, turned-none}
 
