@@ -12,7 +12,7 @@ use Rattle.grammar.specs.Lexed.{Lexed}
 use Rattle.fields.specs.declared.Fields.{Fields}
 use Rattle.fields.specs.Spans.{fieldsAt}
 use Rattle.fields.specs.Parts.{Part, field-part}
-use Rattle.declarations.specs.Lines.{opens, beginsFrom, Noted}
+use Rattle.declarations.specs.Noted.{opens, beginsFrom, Noted}
 use Rattle.declarations.specs.Turn.{Turn}
 use Rattle.declarations.specs.Begins.{told-small, begins-none, begins-here, begins-later, line-told}
 

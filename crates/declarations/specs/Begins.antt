@@ -13,7 +13,7 @@ use Rattle.fields.specs.Spans.{noFields, span, fieldsAt}
 use Rattle.fields.specs.Places.{rows-none}
 use Rattle.fields.specs.Promise.{fields-told}
 use Rattle.fields.specs.Parts.{next-line, no-line}
-use Rattle.declarations.specs.Lines.{opens, linesOf, beginsOf, beginsFrom}
+use Rattle.declarations.specs.Noted.{opens, beginsOf, beginsFrom}
 
 -- a line that is told stands in a text that is not too long
 pub told-small : (t : List ℕ) (a : ℕ) → 0 < fieldsAt t a .count → length t ≤ 65535

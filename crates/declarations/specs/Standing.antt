@@ -5,7 +5,7 @@ use mathlib.Core.Bool.{Bool, true, false, cond}
 use mathlib.Core.List.{List, [], _∷_}
 use native.Mathlib.Decide.{decLe}
 use native.Mathlib.Omega.{arith}
-use lib.Seq.{getD-take}
+use lib.Seq.{getD-take, take-all}
 use lib.ListN.{length, getD, take, drop, drop-of-length-le, length-take}
 use borrow.Author.Tests.{le-ltb, lt-ltb}
 use Rattle.grammar.specs.Rows.{rows, rowAt}
@@ -13,7 +13,8 @@ use Rattle.fields.specs.Spans.{span, fieldsAt}
 use Rattle.fields.specs.Promise.{fields-told}
 use Rattle.fields.specs.Parts.{next-line}
 use Rattle.fields.specs.Places.{rows-none}
-use Rattle.declarations.specs.Lines.{opens, linesOf, told, declared, beginsOf, beginsFrom}
+use Rattle.declarations.specs.Lines.{linesOf}
+use Rattle.declarations.specs.Noted.{opens, told, declared, beginsOf, beginsFrom}
 
 module _ (w t : List ℕ) (d : ℕ) (small : length t ≤ 65535) (past : length t ≤ d) where
   no-row : rowAt t d ≡ []
@@ -45,7 +46,9 @@ module _ (w t : List ℕ) (d : ℕ) (small : length t ≤ 65535) (past : length 
       rowAt t (getD (beginsOf w a fs) k d) ≡ getD (linesOf w fs) k []
   unfolding beginsOf linesOf
   stands [] a k e = no-row
-  stands (f ∷ fs) a k e = go (opens w f) k (stands fs (a + span f) k (rows-below a f fs e)) (λ j. stands fs (a + span f) j (rows-below a f fs e))
+  stands (f ∷ fs) a k e =
+      go (opens w f) k (stands fs (a + span f) k (rows-below a f fs e))
+      (λ j. stands fs (a + span f) j (rows-below a f fs e))
     where
       go :
           (b : Bool) (k : ℕ) →
@@ -89,6 +92,11 @@ any-default (x ∷ xs) (suc k) a b h = any-default xs k a b (omega arith)
 
 -- ---- the first n places and the first n lines
 module _ (w : List ℕ) (n : ℕ) (t : List ℕ) where
+  -- where there are no more than n, they are all the lines that open with w
+  pub declared-all : length t ≤ 65535 → length (linesOf w (rows t)) ≤ n → declared w n t ≡ linesOf w (rows t)
+  unfolding declared told
+  declared-all h l = rw (le-ltb 65535 (length t) h) (take-all n (linesOf w (rows t)) l)
+
   pub declared-many : length (take n (beginsFrom w t 0)) ≡ length (declared w n t)
   unfolding declared
   declared-many = rw (length-take, length-take, begins-many w t)
@@ -109,6 +117,7 @@ module _ (w : List ℕ) (n : ℕ) (t : List ℕ) where
     pub declared-row : rowAt t (getD (take n (beginsFrom w t 0)) k 0) ≡ getD (declared w n t) k []
     unfolding declared
     declared-row =
-        ap (rowAt t) (getD-take n (beginsFrom w t 0) k 0 (within .0) ∙ any-default (beginsFrom w t 0) k 0 (length t) (within .1))
+        ap (rowAt t)
+        (getD-take n (beginsFrom w t 0) k 0 (within .0) ∙ any-default (beginsFrom w t 0) k 0 (length t) (within .1))
         ∙ line-stands w t (length t) declared-small (omega arith) k
         ∙ sym (getD-take n (linesOf w (told t)) k [] (within .0))
