@@ -6,6 +6,6 @@ use Rattle.grammar.specs.Words.{same}
 use Rattle.grammar.specs.Rows.{word}
 
 -- "Numbers are given in line order": the lines that open with w
-unfoldable pub linesOf : List ℕ → List (List (List ℕ)) → List (List (List ℕ))
-linesOf w [] = []
-linesOf w (f ∷ fs) = cond (same (word f 0) w) (f ∷ linesOf w fs) (linesOf w fs)
+unfoldable pub linesOf : List (List (List ℕ)) → List ℕ → List (List (List ℕ))
+linesOf [] w = []
+linesOf (f ∷ fs) w = cond (same (word f 0) w) (f ∷ linesOf fs w) (linesOf fs w)

@@ -21,7 +21,7 @@ told t = cond (ltb 65535 (length t)) [] (rows t)
 
 -- the first n lines of the text that open with w
 unfoldable pub declared : List ℕ → ℕ → List ℕ → List (List (List ℕ))
-declared w n t = take n (linesOf w (told t))
+declared w n t = take n (linesOf (told t) w)
 
 -- where they begin, the first of all lines at place a
 unfoldable pub beginsOf : List ℕ → ℕ → List (List (List ℕ)) → List ℕ

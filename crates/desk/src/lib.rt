@@ -38,7 +38,8 @@ pub extern "C" fn oorlichday_list(text: &[u8], out: &mut [u8]) -> Reading
       place = listed (listing (now (text .entry))) (length (now (out .entry))) .answer .place;
     } ⌝ }
     ensures { λ r. ⌜ now (out .exit)
-        ≡ fronted (listed (listing (now (text .entry))) (length (now (out .entry))) .bytes) (now (out .entry)) ⌝ }
+        ≡ fronted (listed (listing (now (text .entry))) (length (now (out .entry))) .bytes)
+        (now (out .entry)) ⌝ }
 {
     let answer = listing::list(text, out);
     Reading {

@@ -35,8 +35,9 @@ module _ (t before after : List ℕ) (a : Told) (r : Answered (reading 644 t) be
     -- the front of the packed buffer is the table that was read
     table-is : part after 0 (a .place) ≡ reading 644 t .bytes
     table-is =
+        let g = reading 644 t in
         rw (r .bytes, place-is)
-        (take-at (reading 644 t .bytes) _ (reading 644 t .place) (sym (reading-fair 644 t (sym number-is ∙ z))))
+        (take-at (g .bytes) _ (g .place) (sym (reading-fair 644 t (sym number-is ∙ z))))
 
     -- the front of the order buffer is the calls that were given
     calls-are :
@@ -46,8 +47,8 @@ module _ (t before after : List ℕ) (a : Told) (r : Answered (reading 644 t) be
         let o = ordering table 224 in take-at (o .bytes) _ (o .answer .place) (sym (ordering-long table 224))
 
     pub list-ordered :
-        (table calls : List ℕ) (o : Answer) → table ≡ part after 0 (a .place) → o ≡ ordering table 224 .answer →
-        calls ≡ fronted (ordering table 224 .bytes) (replicate 224 0) →
+        (table calls : List ℕ) (o : Answer) → table ≡ part after 0 (a .place) →
+        o ≡ ordering table 224 .answer → calls ≡ fronted (ordering table 224 .bytes) (replicate 224 0) →
         outcomeOf t (outcome (o .number) (o .place) (part calls 0 (o .place))) ≡ listing t
     unfolding listing
     list-ordered table calls o e p q =

@@ -119,10 +119,11 @@ module _ (d : Draft) (k : ℕ) (f : List (List ℕ)) where
 
   line-adds : Adds d (bit (same first unit)) (bit (same first out)) (bit (same first inp)) (line d k f)
   unfolding line refused
-  line-adds = go (same first unit) refl (same first out) refl (same first inp) refl (same first _) (same first _)
+  line-adds =
+      go (same first unit) refl (same first out) refl (same first inp) refl (same first _) (same first _)
     where
-      go : (a : Bool) → same first unit ≡ a → (b : Bool) → same first out ≡ b → (c : Bool) → same first inp ≡ c
-          → (e h : Bool) → Adds d (bit a) (bit b) (bit c)
+      go : (a : Bool) → same first unit ≡ a → (b : Bool) → same first out ≡ b
+          → (c : Bool) → same first inp ≡ c → (e h : Bool) → Adds d (bit a) (bit b) (bit c)
           (cond a (unitLine d f)
           (cond b (outLine d f)
           (cond c (inLine d k f)
@@ -144,16 +145,16 @@ module _ (d : Draft) (k : ℕ) (f : List (List ℕ)) where
 -- how many more there may be below a draft
 abbrev Few : Draft → List (List (List ℕ)) → Type 0
 Few d fs =
-    (length (d .units) + length (linesOf unit fs) ≤ 32)
-    × (length (d .outputs) + length (linesOf out fs) ≤ 96)
-    × (length (d .inputs) + length (linesOf inp fs) ≤ 96)
+    (length (d .units) + length (linesOf fs unit) ≤ 32)
+    × (length (d .outputs) + length (linesOf fs out) ≤ 96)
+    × (length (d .inputs) + length (linesOf fs inp) ≤ 96)
 
 one-more : (w : List ℕ) (f : List (List ℕ)) (fs : List (List (List ℕ)))
-    → length (linesOf w (f ∷ fs)) ≡ bit (same (word f 0) w) + length (linesOf w fs)
+    → length (linesOf (f ∷ fs) w) ≡ bit (same (word f 0) w) + length (linesOf fs w)
 unfolding linesOf
 one-more w f fs = go (same (word f 0) w)
   where
-    go : (b : Bool) → length (cond b (f ∷ linesOf w fs) (linesOf w fs)) ≡ bit b + length (linesOf w fs)
+    go : (b : Bool) → length (cond b (f ∷ linesOf fs w) (linesOf fs w)) ≡ bit b + length (linesOf fs w)
     go true = omega arith
     go false = omega arith
 
@@ -237,14 +238,14 @@ module _ (room : ℕ) (t : List ℕ) (e : reading room t .number ≡ 0) where
   abbrev read : Read t
   read = text-read room t e
 
-  pub all-units : declared unit 32 t ≡ linesOf unit (rows t)
+  pub all-units : declared unit 32 t ≡ linesOf (rows t) unit
   unfolding blank
   all-units = declared-all unit 32 t (omega (arith, read .short)) (omega (arith, read .few .0))
 
-  pub all-outputs : declared out 96 t ≡ linesOf out (rows t)
+  pub all-outputs : declared out 96 t ≡ linesOf (rows t) out
   unfolding blank
   all-outputs = declared-all out 96 t (omega (arith, read .short)) (omega (arith, read .few .1))
 
-  pub all-inputs : declared inp 96 t ≡ linesOf inp (rows t)
+  pub all-inputs : declared inp 96 t ≡ linesOf (rows t) inp
   unfolding blank
   all-inputs = declared-all inp 96 t (omega (arith, read .short)) (omega (arith, read .few .2))

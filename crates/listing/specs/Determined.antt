@@ -14,5 +14,6 @@ use Rattle.listing.specs.Listing.{listing}
 pub list-determined : (t out : List ℕ) → Determined Answer (listed (listing t) (length out) .answer)
 list-determined t = put-determined (listing t)
 
-pub list-leaves : (t out : List ℕ) → Determined (List ℕ) (fronted (listed (listing t) (length out) .bytes) out)
+pub list-leaves :
+    (t out : List ℕ) → Determined (List ℕ) (fronted (listed (listing t) (length out) .bytes) out)
 list-leaves t = put-leaves (listing t)

@@ -13,7 +13,7 @@ use Rattle.printing.specs.Entries.{outcomeText, refusalText}
 -- "It reads a text table": a refusal, or what ordering the packed table gives, with names from the lines
 unfoldable pub listing : List ℕ → List ℕ
 listing t =
-    cond (eqb (reading 644 t .number) 0)
-    (outcomeText (linesOf unit (rows t)) (linesOf out (rows t)) (linesOf inp (rows t))
-    (ordering (reading 644 t .bytes) 224))
-    (refusalText (reading 644 t .number) (reading 644 t .place))
+    let g = reading 644 t in
+    let lines = linesOf (rows t) in
+    cond (eqb (g .number) 0) (outcomeText (lines unit) (lines out) (lines inp) (ordering (g .bytes) 224))
+    (refusalText (g .number) (g .place))

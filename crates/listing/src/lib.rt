@@ -15,7 +15,8 @@ ghost use Rattle.listing.specs.Listing.{listing};
 pub fn list(text: &[u8], out: &mut [u8]) -> Answer
     ensures { λ r. ⌜ r ≡ listed (listing (now (text .entry))) (length (now (out .entry))) .answer ⌝ }
     ensures { λ r. ⌜ now (out .exit)
-        ≡ fronted (listed (listing (now (text .entry))) (length (now (out .entry))) .bytes) (now (out .entry)) ⌝ }
+        ≡ fronted (listed (listing (now (text .entry))) (length (now (out .entry))) .bytes)
+        (now (out .entry)) ⌝ }
 {
     let mut table = [0u8; 644];
     let mut calls = [0u8; 224];

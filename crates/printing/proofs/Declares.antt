@@ -113,7 +113,9 @@ module _ (t us ys xs : List ℕ) (i : Indexed t us ys xs) where
       found k _ (call-within (length us) (length ys) (length xs) c)
       ∙ ap (entry (unitLines t) (outputLines t) (inputLines t) k) (same-call c)
 
-  some : (c : Call) → Within (length us) (length ys) (length xs) c → lineFor us ys xs c .kind < 3 → length t ≤ 65535
+  some :
+      (c : Call) → Within (length us) (length ys) (length xs) c → lineFor us ys xs c .kind < 3 →
+      length t ≤ 65535
   unfolding lineFor
   some (Step n) h s = declared-small unit 32 t n (rw (← i .unit-places) h)
   some (Get n) h s = declared-small out 96 t n (rw (← i .output-places) h)
@@ -134,14 +136,19 @@ module _ (t us ys xs : List ℕ) (i : Indexed t us ys xs) where
 -- ---- the arms of the match
 
 module _ (us ys xs : List ℕ) (c n : ℕ) where
+  arm : (k : Call)
+      → callIn (length us) (length ys) (length xs) c ≡ k → Within (length us) (length ys) (length xs) k
+  arm k e =
+      subst (Within (length us) (length ys) (length xs)) e (call-within (length us) (length ys) (length xs) c)
+
   pub step-arm : callIn (length us) (length ys) (length xs) c ≡ Step n → n < length us
-  step-arm e = subst (Within (length us) (length ys) (length xs)) e (call-within (length us) (length ys) (length xs) c)
+  step-arm = arm (Step n)
 
   pub get-arm : callIn (length us) (length ys) (length xs) c ≡ Get n → n < length ys
-  get-arm e = subst (Within (length us) (length ys) (length xs)) e (call-within (length us) (length ys) (length xs) c)
+  get-arm = arm (Get n)
 
   pub set-arm : callIn (length us) (length ys) (length xs) c ≡ Set n → n < length xs
-  set-arm e = subst (Within (length us) (length ys) (length xs)) e (call-within (length us) (length ys) (length xs) c)
+  set-arm = arm (Set n)
 
 pub line-of : (us ys xs : List ℕ) (c : ℕ) (k : Call)
     → callIn (length us) (length ys) (length xs) c ≡ k → lineFor us ys xs k ≡ lineAt us ys xs c
@@ -163,8 +170,8 @@ word-short t a i h five =
 -- ---- what is put
 
 pub nothing-put :
-    (t : List ℕ) (k : ℕ) (l : Line) (o : List ℕ) (at : ℕ) → 3 ≤ l .kind → at + length (textOf t k l) ≤ length o →
-    Wrote o at (textOf t k l) o at
+    (t : List ℕ) (k : ℕ) (l : Line) (o : List ℕ) (at : ℕ) →
+    3 ≤ l .kind → at + length (textOf t k l) ≤ length o → Wrote o at (textOf t k l) o at
 nothing-put t k l o at h room = rw (text-none t k l h) (wrote-none o at (omega arith))
 
 pub same-put : {o s r after : List ℕ} {at k : ℕ} → Wrote o at s after k → s ≡ r → Wrote o at r after k

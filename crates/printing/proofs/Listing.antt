@@ -15,7 +15,8 @@ use Rattle.printing.specs.Indexed.{entryOf, entriesOf}
 
 module _ (t cs : List ℕ) (i : ℕ) where
   one-entry :
-      i < length cs → entriesOf t i (drop i cs) ≡ entryOf t i (getD cs i 0) ++ entriesOf t (i + 1) (drop (i + 1) cs)
+      i < length cs →
+      entriesOf t i (drop i cs) ≡ entryOf t i (getD cs i 0) ++ entriesOf t (i + 1) (drop (i + 1) cs)
   unfolding entries
   one-entry h = rw (drop-cons cs i 0, add-one)
 
@@ -51,7 +52,8 @@ module _ {t cs : List ℕ} {room left i : ℕ} (g : Fitting t cs room left i) wh
     fitting-not f = sym (lt-leb (length (entriesOf t 0 cs)) room (omega (arith, next)))
 
   pub fitting-ends : length cs ≤ i → true ≡ leb (length (entriesOf t 0 cs)) room
-  fitting-ends h = sym (le-leb (length (entriesOf t 0 cs)) room (omega (arith, g .rest, ap length (no-entry t cs i h))))
+  fitting-ends h =
+      sym (le-leb (length (entriesOf t 0 cs)) room (omega (arith, g .rest, ap length (no-entry t cs i h))))
 
 -- ---- the lines put
 
@@ -102,5 +104,6 @@ module _ {t cs out₀ : List ℕ} {at : ℕ} {out : List ℕ} {end i : ℕ} (g :
 
   pub writing-ends : length cs ≤ i → Wrote out₀ at (entriesOf t 0 cs) out end
   writing-ends h =
-      let e : g .done ≡ entriesOf t 0 cs = sym (append-nil (g .done)) ∙ ap (λ s. g .done ++ s) (sym (no-entry t cs i h)) ∙ g .rest in
+      let e : g .done ≡ entriesOf t 0 cs =
+      sym (append-nil (g .done)) ∙ ap (λ s. g .done ++ s) (sym (no-entry t cs i h)) ∙ g .rest in
       rw (← e) (g .wrote)

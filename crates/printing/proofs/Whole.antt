@@ -65,12 +65,14 @@ module _ (t w cs : List ℕ) where
 
   module _ (o : List ℕ) where
     pub calls-not-1 :
-        (n : ℕ) → n ≡ length (decimal (length cs)) → length o < length w + n + 2 → Listed (callsOf t w cs) o o short
+        (n : ℕ) → n ≡ length (decimal (length cs)) → length o < length w + n + 2 →
+        Listed (callsOf t w cs) o o short
     calls-not-1 n e h = listed-not _ o (omega (arith, calls-long))
 
     module _ (n : ℕ) (e : n ≡ length (decimal (length cs))) (h : length w + n + 2 ≤ length o) where
       pub calls-not-2 :
-          leb (length (entriesOf t 0 cs)) (length o - (length w + n + 2)) ≡ false → Listed (callsOf t w cs) o o short
+          leb (length (entriesOf t 0 cs)) (length o - (length w + n + 2)) ≡ false →
+          Listed (callsOf t w cs) o o short
       calls-not-2 f =
           listed-not _ o
           (omega (arith, calls-long, leb-false (length (entriesOf t 0 cs)) (length o - (length w + n + 2)) f))
@@ -111,7 +113,8 @@ module _ (t w cs : List ℕ) where
 
 module _ (n k : ℕ) where
   three-fields :
-      ((ascii "refused" ++ (tab ∷ [])) ++ (decimal n ++ (tab ∷ []))) ++ (decimal k ++ (lf ∷ [])) ≡ refusalText n k
+      ((ascii "refused" ++ (tab ∷ [])) ++ (decimal n ++ (tab ∷ []))) ++ (decimal k ++ (lf ∷ []))
+      ≡ refusalText n k
   unfolding refusalText printed
   three-fields = simp append-assoc
 
@@ -121,7 +124,8 @@ module _ (n k : ℕ) where
   module _ {o₁ o₂ o₃ : List ℕ} {o : List ℕ} {k₁ k₂ k₃ : ℕ} where
     pub refusal-all :
         Wrote o 0 (ascii "refused" ++ (tab ∷ [])) o₁ k₁ → Wrote o₁ k₁ (decimal n ++ (tab ∷ [])) o₂ k₂ →
-        Wrote o₂ k₂ (decimal k ++ (lf ∷ [])) o₃ k₃ → Listed (refusalText n k) o o₃ (record { number = 0; place = k₃ })
+        Wrote o₂ k₂ (decimal k ++ (lf ∷ [])) o₃ k₃ →
+        Listed (refusalText n k) o o₃ (record { number = 0; place = k₃ })
     refusal-all w₁ w₂ w₃ = listed-all (rw three-fields at (wrote-then (wrote-then w₁ w₂) w₃))
 
 -- ---- the places noted

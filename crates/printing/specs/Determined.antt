@@ -9,7 +9,7 @@ use Rattle.table.specs.Outcome.{Outcome}
 use Rattle.table.specs.Determined.{Determined, same-answer}
 use Rattle.printing.specs.Listed.{listed}
 
--- of `put_calls` at the text of the calls, of `put_refusal` at the text of the refusal, of `put_outcome` at either
+-- of `put_calls` at the text of calls, of `put_refusal` at that of a refusal, of `put_outcome` at either
 pub put-determined : (s out : List ℕ) → Determined Answer (listed s (length out) .answer)
 put-determined s out = same-answer
 

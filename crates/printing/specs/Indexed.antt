@@ -24,7 +24,8 @@ module _ (t : List ℕ) where
   -- the line of call c at place k
   abbrev pub entryOf : ℕ → ℕ → List ℕ
   entryOf k c =
-      entry unitLines outputLines inputLines k (callIn (length unitLines) (length outputLines) (length inputLines) c)
+      entry unitLines outputLines inputLines k
+      (callIn (length unitLines) (length outputLines) (length inputLines) c)
 
   abbrev pub entriesOf : ℕ → List ℕ → List ℕ
   entriesOf = entries unitLines outputLines inputLines

@@ -108,7 +108,7 @@ pub fn put_refusal(number: u8, line: usize, out: &mut [u8]) -> Answer
     }
 }
 
-// Writes what an ordering answered: an order, a cycle, or a refusal; the calls stand at the front of its buffer.
+// Writes what an ordering answered: an order, a cycle, or a refusal; its calls stand at the buffer's front.
 pub fn put_outcome(text: &[u8], answer: Answer, buffer: &[u8], out: &mut [u8]) -> Answer
     ensures { λ r. ⌜ r
         ≡ listed (outcomeOf (now (text .entry))
