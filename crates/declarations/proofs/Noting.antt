@@ -12,7 +12,7 @@ use Rattle.grammar.specs.Lexed.{Lexed}
 use Rattle.fields.specs.declared.Fields.{Fields}
 use Rattle.fields.specs.Spans.{fieldsAt}
 use Rattle.fields.specs.Parts.{Part, field-part}
-use Rattle.declarations.specs.Lines.{opens, beginsFrom, Noted}
+use Rattle.declarations.specs.Noted.{opens, beginsFrom, Noted}
 use Rattle.declarations.specs.Turn.{Turn}
 use Rattle.declarations.specs.Begins.{told-small, begins-none, begins-here, begins-later, line-told}
 
@@ -63,7 +63,8 @@ module _ {w t places₀ places : List ℕ} {n a : ℕ} (g : Noting w t places₀
       go true o =
           let f : after ≡ set places n a = turn .front ∙ rw o in
           let c : m ≡ n + 1 = turn .count ∙ rw o in
-          let r : beginsFrom w t a ≡ a ∷ beginsFrom w t (l .next) = rw e (begins-here w t a (told-count t a l e h) o) in
+          let r : beginsFrom w t a ≡ a ∷ beginsFrom w t (l .next) =
+          rw e (begins-here w t a (told-count t a l e h) o) in
           record {
             within = line-inside t a l e h;
             noted = rw (f, c) (fronting-on _ _ _ _ n a room (rw r at (g .noted)));
@@ -71,7 +72,8 @@ module _ {w t places₀ places : List ℕ} {n a : ℕ} (g : Noting w t places₀
       go false o =
           let f : after ≡ places = turn .front ∙ rw o in
           let c : m ≡ n = turn .count ∙ rw o in
-          let r : beginsFrom w t a ≡ beginsFrom w t (l .next) = rw e (begins-later w t a (told-count t a l e h) o) in
+          let r : beginsFrom w t a ≡ beginsFrom w t (l .next) =
+          rw e (begins-later w t a (told-count t a l e h) o) in
           record { within = line-inside t a l e h; noted = rw (f, c) (rw r at (g .noted)) }
 
   -- no line is left

@@ -13,7 +13,7 @@ use Rattle.fields.specs.Spans.{noFields, span, fieldsAt}
 use Rattle.fields.specs.Places.{rows-none}
 use Rattle.fields.specs.Promise.{fields-told}
 use Rattle.fields.specs.Parts.{next-line, no-line}
-use Rattle.declarations.specs.Lines.{opens, linesOf, beginsOf, beginsFrom}
+use Rattle.declarations.specs.Noted.{opens, beginsOf, beginsFrom}
 
 -- a line that is told stands in a text that is not too long
 pub told-small : (t : List ℕ) (a : ℕ) → 0 < fieldsAt t a .count → length t ≤ 65535
@@ -52,19 +52,22 @@ module _ (w t : List ℕ) (a : ℕ) where
         empty [] n = refl
         empty (f ∷ fs) n = absurd (n (omega arith))
 
-    pub line-told : Lexed t a (fieldsAt t a .from) (fieldsAt t a .to) (fieldsAt t a .count) (fieldsAt t a .next)
+    pub line-told :
+        let l = fieldsAt t a in Lexed t a (l .from) (l .to) (l .count) (l .next)
     line-told = fields-told t a small row-there
 
     from-here : beginsFrom w t a ≡ beginsOf w a (rows (drop a t))
     unfolding beginsFrom
     from-here = rw (le-ltb 65535 (length t) small)
 
-    from-next : beginsFrom w t (fieldsAt t a .next) ≡ beginsOf w (a + span (rowAt t a)) (rows (drop (fieldsAt t a .next) t))
+    from-next : beginsFrom w t (fieldsAt t a .next)
+        ≡ beginsOf w (a + span (rowAt t a)) (rows (drop (fieldsAt t a .next) t))
     unfolding beginsFrom
     from-next = rw (le-ltb 65535 (length t) small, next-line t a small row-there)
 
-    split : beginsFrom w t a ≡
-        cond (opens w (rowAt t a)) (a ∷ beginsFrom w t (fieldsAt t a .next)) (beginsFrom w t (fieldsAt t a .next))
+    split :
+        let rest = beginsFrom w t (fieldsAt t a .next) in
+        beginsFrom w t a ≡ cond (opens w (rowAt t a)) (a ∷ rest) rest
     unfolding beginsOf
     split = from-here ∙ rw (line-told .rest, from-next)
 

@@ -2,7 +2,7 @@
 use Prim.Native.Nat.{ℕ}
 use mathlib.Core.Path.{_≡_, sym, _∙_}
 use mathlib.Core.List.{List}
-use Rattle.declarations.specs.Lines.{Noted}
+use Rattle.declarations.specs.Noted.{Noted}
 
 pub note-lines-determined :
     (w t places a b : List ℕ) (j k : ℕ) → Noted w t places a j → Noted w t places b k → (a ≡ b) × (j ≡ k)

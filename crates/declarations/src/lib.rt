@@ -8,7 +8,7 @@ ghost use Prim.Native.Nat.{_+_, _<_, _≤_};
 ghost use lib.ListN.{length, set};
 ghost use Rattle.grammar.specs.Rows.{rowAt};
 ghost use Rattle.fields.specs.Spans.{fieldsAt};
-ghost use Rattle.declarations.specs.Lines.{opens as opensWith, Noted};
+ghost use Rattle.declarations.specs.Noted.{opens as opensWith, Noted};
 ghost use Rattle.declarations.specs.Turn.{Turn};
 
 // Does the line at place a, with these fields, open with the keyword?
@@ -31,7 +31,8 @@ fn note(
     n: usize,
 ) -> usize
     requires { ⌜ (fields ≡ fieldsAt (now text) a) × (0 < fields .count) × (n < length (now places)) ⌝ }
-    ensures { λ r. ⌜ Turn (now (keyword .entry)) (now (text .entry)) a n (now (places .entry)) (now (places .exit)) r ⌝ }
+    ensures { λ r. ⌜ Turn (now (keyword .entry)) (now (text .entry)) a n
+        (now (places .entry)) (now (places .exit)) r ⌝ }
 {
     if !opens(text, keyword, a, fields) {
         return n;
@@ -42,7 +43,8 @@ fn note(
 
 // Notes where the lines that open with the keyword begin, as many as there is room for, and answers how many.
 pub fn note_lines(text: &[u8], keyword: &[u8], places: &mut [u16]) -> usize
-    ensures { λ r. ⌜ Noted (now (keyword .entry)) (now (text .entry)) (now (places .entry)) (now (places .exit)) r ⌝ }
+    ensures { λ r. ⌜ Noted (now (keyword .entry)) (now (text .entry))
+        (now (places .entry)) (now (places .exit)) r ⌝ }
 {
     let mut a = 0;
     let mut n = 0;

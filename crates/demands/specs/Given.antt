@@ -10,7 +10,8 @@ use Rattle.table.specs.Check.{refusal}
 use Rattle.table.specs.Checked.{passed-sound}
 use Rattle.calls.specs.Precedence.{precedes}
 use Rattle.orders.specs.First.{First}
-use Rattle.placing.specs.Placing.{Outcome, callCount}
+use Rattle.table.specs.Outcome.{Outcome}
+use Rattle.placing.specs.Placing.{callCount}
 use Rattle.sorter.specs.Ordering.{ordering}
 use Rattle.sorter.specs.Answers.{ordering-unsound, ordering-short}
 use Rattle.sorter.specs.Demand.{order-first}

@@ -1,15 +1,28 @@
--- Any two permitted answers are equal.
-use mathlib.Core.Path.{_≡_, sym, _∙_}
+-- Any two permitted answers are equal, and any two buffers that are left.
+use mathlib.Core.Path.{_≡_}
 use mathlib.Core.List.{List}
 use Prim.Native.Nat.{ℕ}
-use Rattle.grammar.specs.Reading.{Reading}
-use Rattle.desk.specs.declared.Reading.{Reading as Told}
-use Rattle.desk.specs.Exported.{Exported, Shown}
+use lib.ListN.{length}
+use Rattle.search.specs.Front.{fronted}
+use Rattle.table.specs.Outcome.{Outcome}
+use Rattle.table.specs.Determined.{Determined, same-answer}
+use Rattle.grammar.specs.Reading.{reading}
+use Rattle.printing.specs.Listed.{listed}
+use Rattle.listing.specs.Listing.{listing}
+use Rattle.desk.specs.declared.Reading.{Reading}
 
-pub read-determined :
-    (g : Reading) (before a b : List ℕ) (p q : Told) → Exported g before a p → Exported g before b q → (a ≡ b) × (p ≡ q)
-read-determined g before a b p q x y = (x .bytes ∙ sym (y .bytes), x .answer ∙ sym (y .answer))
+module _ (t out : List ℕ) where
+  pub read-determined :
+      let g = reading (length out) t in Determined Reading (record { number = g .number; place = g .place })
+  read-determined = same-answer
 
-pub list-determined :
-    (s before a b : List ℕ) (p q : Told) → Shown s before a p → Shown s before b q → (a ≡ b) × (p ≡ q)
-list-determined s before a b p q x y = (x .bytes ∙ sym (y .bytes), x .answer ∙ sym (y .answer))
+  pub read-leaves : Determined (List ℕ) (fronted (reading (length out) t .bytes) out)
+  read-leaves = same-answer
+
+  pub list-determined :
+      let a = listed (listing t) (length out) .answer in
+      Determined Reading (record { number = a .number; place = a .place })
+  list-determined = same-answer
+
+  pub list-leaves : Determined (List ℕ) (fronted (listed (listing t) (length out) .bytes) out)
+  list-leaves = same-answer

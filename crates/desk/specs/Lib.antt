@@ -1,3 +1,2 @@
 -- What the desktop calls answer.
-pub mod Exported
 pub mod Determined

@@ -1,8 +1,10 @@
 // The text calls for tests and desktop programs.
+ghost use mathlib.Core.Path.{_≡_};
 ghost use lib.ListN.{length};
+ghost use Rattle.search.specs.Front.{fronted};
 ghost use Rattle.grammar.specs.Reading.{reading};
+ghost use Rattle.printing.specs.Listed.{listed};
 ghost use Rattle.listing.specs.Listing.{listing};
-ghost use Rattle.desk.specs.Exported.{Exported, Shown};
 
 // A refusal's number with its line, or 0 with how many bytes were written.
 #[repr(C)]
@@ -14,7 +16,12 @@ pub struct Reading {
 // Reads a text into a packed table.
 #[no_mangle]
 pub extern "C" fn oorlichday_read(text: &[u8], table: &mut [u8]) -> Reading
-    ensures { λ r. ⌜ Exported (reading (length (now (table .entry))) (now (text .entry))) (now (table .entry)) (now (table .exit)) r ⌝ }
+    ensures { λ r. ⌜ r ≡ record {
+      number = reading (length (now (table .entry))) (now (text .entry)) .number;
+      place = reading (length (now (table .entry))) (now (text .entry)) .place;
+    } ⌝ }
+    ensures { λ r. ⌜ now (table .exit)
+        ≡ fronted (reading (length (now (table .entry))) (now (text .entry)) .bytes) (now (table .entry)) ⌝ }
 {
     let answer = text::read(text, table);
     Reading {
@@ -26,7 +33,13 @@ pub extern "C" fn oorlichday_read(text: &[u8], table: &mut [u8]) -> Reading
 // Writes what the lister prints of a text.
 #[no_mangle]
 pub extern "C" fn oorlichday_list(text: &[u8], out: &mut [u8]) -> Reading
-    ensures { λ r. ⌜ Shown (listing (now (text .entry))) (now (out .entry)) (now (out .exit)) r ⌝ }
+    ensures { λ r. ⌜ r ≡ record {
+      number = listed (listing (now (text .entry))) (length (now (out .entry))) .answer .number;
+      place = listed (listing (now (text .entry))) (length (now (out .entry))) .answer .place;
+    } ⌝ }
+    ensures { λ r. ⌜ now (out .exit)
+        ≡ fronted (listed (listing (now (text .entry))) (length (now (out .entry))) .bytes)
+        (now (out .entry)) ⌝ }
 {
     let answer = listing::list(text, out);
     Reading {

@@ -37,7 +37,8 @@ use Rattle.calls.specs.Precedence.{
 use Rattle.orders.specs.Sort.{ready, nextCall, sort, placed}
 use Rattle.orders.specs.Walk.{upto, lowestBefore, walk, lowestLeft, met}
 use Rattle.orders.specs.Turn.{lowestOf, lowestPlace, shown}
-use Rattle.placing.specs.Placing.{outcome, placedOf}
+use Rattle.table.specs.Outcome.{outcome}
+use Rattle.placing.specs.Placing.{placedOf}
 use Rattle.sorter.specs.Ordering.{shownOf, stopped, settled, ordering}
 use Rattle.examples.specs.Tables.{A, A-reactive, C, C-fed, G, alone, itself}
 

@@ -2,20 +2,22 @@
 use Prim.Native.Nat.{ℕ}
 use mathlib.Core.Path.{_≡_, refl, ap, sym, _∙_}
 use mathlib.Core.List.{List, _++_}
-use lib.ListN.{length, take, drop, replicate}
+use lib.ListN.{length, replicate}
 use lib.Seq.{take-at}
 use borrow.Author.Tests.{eq-eqb, ne-eqb}
 use Rattle.search.specs.Front.{fronted}
 use Rattle.table.specs.Packed.{part}
 use Rattle.table.specs.declared.Answer.{Answer}
+use Rattle.table.specs.Outcome.{Outcome, outcome}
 use Rattle.grammar.specs.Reading.{Reading, reading}
 use Rattle.listing.specs.Lengths.{reading-fair}
 use Rattle.text.specs.declared.Answer.{Answer as Told}
-use Rattle.placing.specs.Placing.{Outcome}
 use Rattle.sorter.specs.Ordering.{ordering}
-use Rattle.printing.specs.Listed.{Listed}
+use Rattle.sorter.specs.Answers.{ordering-long}
 use Rattle.printing.specs.Entries.{outcomeText, refusalText}
-use Rattle.listing.specs.Listing.{orderedText, listing}
+use Rattle.printing.specs.Indexed.{outcomeOf}
+use Rattle.listing.specs.Listing.{listing}
+use Rattle.listing.proofs.Counted.{all-units, all-outputs, all-inputs}
 
 module _ (t before after : List ℕ) (a : Told)
     (r : (a ≡ record { number = reading 644 t .number; place = reading 644 t .place })
@@ -34,16 +36,32 @@ module _ (t before after : List ℕ) (a : Told)
     -- the front of the packed buffer is the table that was read
     table-is : part after 0 (a .place) ≡ reading 644 t .bytes
     table-is =
+        let g = reading 644 t in
         rw (r .1, place-is)
-        (take-at (reading 644 t .bytes) _ (reading 644 t .place) (sym (reading-fair 644 t (sym number-is ∙ z))))
+        (take-at (g .bytes) _ (g .place) (sym (reading-fair 644 t (sym number-is ∙ z))))
+
+    -- the front of the order buffer is the calls that were given
+    calls-are :
+        (table : List ℕ) → let o = ordering table 224 in
+        part (fronted (o .bytes) (replicate 224 0)) 0 (o .answer .place) ≡ o .bytes
+    calls-are table =
+        let o = ordering table 224 in take-at (o .bytes) _ (o .answer .place) (sym (ordering-long table 224))
 
     pub list-ordered :
-        (table calls : List ℕ) (o : Answer) → table ≡ part after 0 (a .place) → o ≡ ordering table 224 .answer →
-        calls ≡ fronted (ordering table 224 .bytes) (replicate 224 0) →
-        outcomeText t (o .number) (o .place) calls ≡ listing t
-    unfolding listing orderedText
+        (table calls : List ℕ) (o : Answer) → table ≡ part after 0 (a .place) →
+        o ≡ ordering table 224 .answer → calls ≡ fronted (ordering table 224 .bytes) (replicate 224 0) →
+        outcomeOf t (outcome (o .number) (o .place) (part calls 0 (o .place))) ≡ listing t
+    unfolding listing
     list-ordered table calls o e p q =
-        rw (p, q, e, table-is, eq-eqb (reading 644 t .number) 0 (sym number-is ∙ z))
-
-pub same-listed : {s r o after : List ℕ} {a : Answer} → s ≡ r → Listed s o after a → Listed r o after a
-same-listed e l = rw (← e) l
+        let r : reading 644 t .number ≡ 0 = sym number-is ∙ z in
+        rw (
+          p,
+          q,
+          calls-are table,
+          e,
+          table-is,
+          all-units 644 t r,
+          all-outputs 644 t r,
+          all-inputs 644 t r,
+          eq-eqb (reading 644 t .number) 0 r,
+        )

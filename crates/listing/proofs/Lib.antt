@@ -1,2 +1,3 @@
 -- Laws of the listing.
+mod Counted
 mod Composed

@@ -2,3 +2,4 @@
 pub mod Lengths
 pub mod Listing
 pub mod Determined
+pub mod Examples

@@ -5,12 +5,18 @@ use sorter::order::order;
 use table::Answer;
 use table::parts::stretch;
 use text::read;
-ghost use Rattle.printing.specs.Listed.{Listed};
+ghost use mathlib.Core.Path.{_≡_};
+ghost use lib.ListN.{length};
+ghost use Rattle.search.specs.Front.{fronted};
+ghost use Rattle.printing.specs.Listed.{listed};
 ghost use Rattle.listing.specs.Listing.{listing};
 
 // Writes the order, the cycle or the refusal of a text of any bytes, all of it or nothing.
 pub fn list(text: &[u8], out: &mut [u8]) -> Answer
-    ensures { λ r. ⌜ Listed (listing (now (text .entry))) (now (out .entry)) (now (out .exit)) r ⌝ }
+    ensures { λ r. ⌜ r ≡ listed (listing (now (text .entry))) (length (now (out .entry))) .answer ⌝ }
+    ensures { λ r. ⌜ now (out .exit)
+        ≡ fronted (listed (listing (now (text .entry))) (length (now (out .entry))) .bytes)
+        (now (out .entry)) ⌝ }
 {
     let mut table = [0u8; 644];
     let mut calls = [0u8; 224];

@@ -10,7 +10,8 @@ use Rattle.search.specs.Truth.{is-true, is-false, eq-true, eq-false}
 use Rattle.search.specs.Front.{fronted}
 use Rattle.table.specs.declared.Answer.{Answer}
 use Rattle.table.specs.Check.{refusal, checked}
-use Rattle.placing.specs.Placing.{Outcome, outcome, callCount, placedOf, placing}
+use Rattle.table.specs.Outcome.{Outcome, outcome}
+use Rattle.placing.specs.Placing.{callCount, placedOf, placing}
 
 module _ (t : List ℕ) (room : ℕ) where
   pub placing-unsound : (refusal t ≡ 0 → ⊥) → placing t room ≡ outcome (refusal t) 0 []

@@ -4,20 +4,12 @@ use mathlib.Core.List.{List, []}
 use Prim.Native.Nat.{ℕ}
 use lib.Dec.{eqb, leb}
 use lib.ListN.{length}
-use Rattle.table.specs.declared.Answer.{Answer}
 use Rattle.table.specs.Shape.{total}
 use Rattle.table.specs.Packed.{shapeOf}
 use Rattle.table.specs.Check.{refusal}
+use Rattle.table.specs.Outcome.{Outcome, outcome}
 use Rattle.calls.specs.Precedence.{precedes}
 use Rattle.orders.specs.Sort.{placed}
-
--- an answer, and the bytes written with it
-pub record Outcome : Type 0 where
-  pub answer : Answer
-  pub bytes : List ℕ
-
-abbrev pub outcome : ℕ → ℕ → List ℕ → Outcome
-outcome number place bytes = record { answer = record { number = number; place = place }; bytes = bytes }
 
 -- N, and the calls of a table that can be placed, by the procedure of "The order"
 abbrev pub callCount : List ℕ → ℕ

@@ -11,14 +11,16 @@ use lib.Dec.{leb}
 use borrow.Author.Tests.{le-leb, lt-leb}
 use Rattle.pen.specs.Chain.{Wrote, wrote-none, wrote-then, wrote-long}
 use Rattle.printing.specs.Entries.{entry, entries}
+use Rattle.printing.specs.Indexed.{entryOf, entriesOf}
 
 module _ (t cs : List ℕ) (i : ℕ) where
   one-entry :
-      i < length cs → entries t i (drop i cs) ≡ entry t i (getD cs i 0) ++ entries t (i + 1) (drop (i + 1) cs)
+      i < length cs →
+      entriesOf t i (drop i cs) ≡ entryOf t i (getD cs i 0) ++ entriesOf t (i + 1) (drop (i + 1) cs)
   unfolding entries
   one-entry h = rw (drop-cons cs i 0, add-one)
 
-  no-entry : length cs ≤ i → entries t i (drop i cs) ≡ []
+  no-entry : length cs ≤ i → entriesOf t i (drop i cs) ≡ []
   unfolding entries
   no-entry h = rw (drop-of-length-le cs h)
 
@@ -26,31 +28,32 @@ module _ (t cs : List ℕ) (i : ℕ) where
 
 pub record Fitting (t cs : List ℕ) (room left i : ℕ) : Type 0 where
   pub passed : i ≤ length cs
-  pub rest : room + length (entries t i (drop i cs)) ≡ left + length (entries t 0 cs)
+  pub rest : room + length (entriesOf t i (drop i cs)) ≡ left + length (entriesOf t 0 cs)
 
 pub fitting-starts : (t cs : List ℕ) (room : ℕ) → Fitting t cs room room 0
 fitting-starts t cs room = record { passed = omega arith; rest = refl }
 
 module _ {t cs : List ℕ} {room left i : ℕ} (g : Fitting t cs room left i) where
-  module _ (n : ℕ) (h : i < length cs) (e : n ≡ length (entry t i (getD cs i 0))) where
-    next : room + (n + length (entries t (i + 1) (drop (i + 1) cs))) ≡ left + length (entries t 0 cs)
+  module _ (n : ℕ) (h : i < length cs) (e : n ≡ length (entryOf t i (getD cs i 0))) where
+    next : room + (n + length (entriesOf t (i + 1) (drop (i + 1) cs))) ≡ left + length (entriesOf t 0 cs)
     next =
         omega (
           arith,
           g .rest,
           e,
           ap length (one-entry t cs i h),
-          length-append (entry t i (getD cs i 0)) (entries t (i + 1) (drop (i + 1) cs)),
+          length-append (entryOf t i (getD cs i 0)) (entriesOf t (i + 1) (drop (i + 1) cs)),
         )
 
     pub fitting-on : n ≤ left → Fitting t cs room (left - n) (i + 1)
     fitting-on f = record { passed = omega arith; rest = omega (arith, next) }
 
-    pub fitting-not : left < n → false ≡ leb (length (entries t 0 cs)) room
-    fitting-not f = sym (lt-leb (length (entries t 0 cs)) room (omega (arith, next)))
+    pub fitting-not : left < n → false ≡ leb (length (entriesOf t 0 cs)) room
+    fitting-not f = sym (lt-leb (length (entriesOf t 0 cs)) room (omega (arith, next)))
 
-  pub fitting-ends : length cs ≤ i → true ≡ leb (length (entries t 0 cs)) room
-  fitting-ends h = sym (le-leb (length (entries t 0 cs)) room (omega (arith, g .rest, ap length (no-entry t cs i h))))
+  pub fitting-ends : length cs ≤ i → true ≡ leb (length (entriesOf t 0 cs)) room
+  fitting-ends h =
+      sym (le-leb (length (entriesOf t 0 cs)) room (omega (arith, g .rest, ap length (no-entry t cs i h))))
 
 -- ---- the lines put
 
@@ -58,10 +61,10 @@ pub record Writing (t cs out₀ : List ℕ) (at : ℕ) (out : List ℕ) (end i :
   pub passed : i ≤ length cs
   pub done : List ℕ
   pub wrote : Wrote out₀ at done out end
-  pub rest : done ++ entries t i (drop i cs) ≡ entries t 0 cs
+  pub rest : done ++ entriesOf t i (drop i cs) ≡ entriesOf t 0 cs
 
 pub writing-starts :
-    (t cs out : List ℕ) (at : ℕ) → at + length (entries t 0 cs) ≤ length out → Writing t cs out at out at 0
+    (t cs out : List ℕ) (at : ℕ) → at + length (entriesOf t 0 cs) ≤ length out → Writing t cs out at out at 0
 writing-starts t cs out at h =
     record { passed = omega arith; done = []; wrote = wrote-none out at (omega arith); rest = refl }
 
@@ -70,13 +73,13 @@ module _ {t cs out₀ : List ℕ} {at : ℕ} {out : List ℕ} {end i : ℕ} (g :
   writing-long = wrote-long (g .wrote)
 
   module _ (h : i < length cs) where
-    more : (g .done ++ entry t i (getD cs i 0)) ++ entries t (i + 1) (drop (i + 1) cs) ≡ entries t 0 cs
+    more : (g .done ++ entryOf t i (getD cs i 0)) ++ entriesOf t (i + 1) (drop (i + 1) cs) ≡ entriesOf t 0 cs
     more =
-        append-assoc (g .done) (entry t i (getD cs i 0)) (entries t (i + 1) (drop (i + 1) cs))
+        append-assoc (g .done) (entryOf t i (getD cs i 0)) (entriesOf t (i + 1) (drop (i + 1) cs))
         ∙ ap (λ s. g .done ++ s) (sym (one-entry t cs i h)) ∙ g .rest
 
     pub writing-room :
-        at + length (entries t 0 cs) ≤ length out₀ → end + length (entry t i (getD cs i 0)) ≤ length out
+        at + length (entriesOf t 0 cs) ≤ length out₀ → end + length (entryOf t i (getD cs i 0)) ≤ length out
     writing-room room =
         omega (
           arith,
@@ -84,22 +87,23 @@ module _ {t cs out₀ : List ℕ} {at : ℕ} {out : List ℕ} {end i : ℕ} (g :
           writing-long,
           g .wrote .place,
           ap length more,
-          length-append (g .done ++ entry t i (getD cs i 0)) (entries t (i + 1) (drop (i + 1) cs)),
-          length-append (g .done) (entry t i (getD cs i 0)),
+          length-append (g .done ++ entryOf t i (getD cs i 0)) (entriesOf t (i + 1) (drop (i + 1) cs)),
+          length-append (g .done) (entryOf t i (getD cs i 0)),
         )
 
     pub writing-on :
-        {after : List ℕ} {k : ℕ} → Wrote out end (entry t i (getD cs i 0)) after k →
+        {after : List ℕ} {k : ℕ} → Wrote out end (entryOf t i (getD cs i 0)) after k →
         Writing t cs out₀ at after k (i + 1)
     writing-on w =
         record {
           passed = omega arith;
-          done = g .done ++ entry t i (getD cs i 0);
+          done = g .done ++ entryOf t i (getD cs i 0);
           wrote = wrote-then (g .wrote) w;
           rest = more;
         }
 
-  pub writing-ends : length cs ≤ i → Wrote out₀ at (entries t 0 cs) out end
+  pub writing-ends : length cs ≤ i → Wrote out₀ at (entriesOf t 0 cs) out end
   writing-ends h =
-      let e : g .done ≡ entries t 0 cs = sym (append-nil (g .done)) ∙ ap (λ s. g .done ++ s) (sym (no-entry t cs i h)) ∙ g .rest in
+      let e : g .done ≡ entriesOf t 0 cs =
+      sym (append-nil (g .done)) ∙ ap (λ s. g .done ++ s) (sym (no-entry t cs i h)) ∙ g .rest in
       rw (← e) (g .wrote)

@@ -9,30 +9,39 @@ use lib.Seq.{take-at}
 use lib.Dec.{leb}
 use borrow.Author.Tests.{lt-ltb, le-ltb, leb-true, leb-false, eq-eqb, ne-eqb}
 use Rattle.search.specs.Front.{fronted}
+use Rattle.grammar.specs.Quoted.{ascii}
 use Rattle.grammar.specs.Words.{tab, lf}
 use Rattle.table.specs.Packed.{part}
 use Rattle.table.specs.declared.Answer.{Answer}
-use Rattle.declarations.specs.Lines.{beginsFrom, Noted}
+use Rattle.table.specs.Outcome.{Outcome, outcome}
+use Rattle.declarations.specs.Noted.{beginsFrom, Noted}
 use Rattle.pen.specs.Decimal.{decimal}
 use Rattle.pen.specs.Chain.{Wrote, wrote-then, wrote-long, wrote-front}
-use Rattle.printing.specs.Printed.{printed, order, cycle, refused}
-use Rattle.printing.specs.Entries.{entries, callsText, refusalText, outcomeText}
-use Rattle.printing.specs.Listed.{answered, listedIn, Listed}
+use Rattle.printing.specs.Printed.{printed}
+use Rattle.printing.specs.Entries.{callsText, refusalText, outcomeText}
+use Rattle.printing.specs.Indexed.{entriesOf, callsOf, outcomeOf}
+use Rattle.printing.specs.Listed.{listed}
 use Rattle.printing.proofs.Fielded.{ended-long}
 
 abbrev pub short : Answer
 short = record { number = 34; place = 0 }
 
-pub listed-not : (s o : List ℕ) → length o < length s → Listed s o o short
-unfolding answered listedIn
-listed-not s o h = record { answer = rw (lt-ltb (length o) (length s) h); bytes = rw (lt-ltb (length o) (length s) h) }
+-- the text s was asked for in the buffer o: the answer a, and what the buffer holds after
+abbrev pub Listed : List ℕ → List ℕ → List ℕ → Answer → Type 0
+Listed s o after a =
+    (a ≡ listed s (length o) .answer) × (after ≡ fronted (listed s (length o) .bytes) o)
 
-pub listed-all : {s o after : List ℕ} {k : ℕ} → Wrote o 0 s after k → Listed s o after (record { number = 0; place = k })
-unfolding answered listedIn
+pub listed-not : (s o : List ℕ) → length o < length s → Listed s o o short
+unfolding listed
+listed-not s o h = (rw (lt-ltb (length o) (length s) h), rw (lt-ltb (length o) (length s) h))
+
+pub listed-all :
+    {s o after : List ℕ} {k : ℕ} → Wrote o 0 s after k → Listed s o after (record { number = 0; place = k })
+unfolding listed
 listed-all {s} {o} {after} {k} w =
     let f = wrote-front w in
     let h : length s ≤ length o = omega (arith, w .room) in
-    record { answer = rw (le-ltb (length o) (length s) h, f .0); bytes = rw (le-ltb (length o) (length s) h) (f .1) }
+    (rw (le-ltb (length o) (length s) h, f .0), rw (le-ltb (length o) (length s) h) (f .1))
 
 -- ---- the first line
 
@@ -42,12 +51,12 @@ two-fields w d = append-assoc w (tab ∷ []) (d ++ (lf ∷ []))
 
 module _ (t w cs : List ℕ) where
   pub calls-long :
-      length (callsText t w cs) ≡ length w + length (decimal (length cs)) + 2 + length (entries t 0 cs)
+      length (callsOf t w cs) ≡ length w + length (decimal (length cs)) + 2 + length (entriesOf t 0 cs)
   unfolding callsText
   calls-long =
       omega (
         arith,
-        length-append (printed (w ∷ decimal (length cs) ∷ [])) (entries t 0 cs),
+        length-append (printed (w ∷ decimal (length cs) ∷ [])) (entriesOf t 0 cs),
         ap length (two-fields w (decimal (length cs))),
         length-append (w ++ (tab ∷ [])) (decimal (length cs) ++ (lf ∷ [])),
         ended-long w tab,
@@ -55,16 +64,22 @@ module _ (t w cs : List ℕ) where
       )
 
   module _ (o : List ℕ) where
-    pub calls-not-1 : (n : ℕ) → n ≡ length (decimal (length cs)) → length o < length w + n + 2 → Listed (callsText t w cs) o o short
+    pub calls-not-1 :
+        (n : ℕ) → n ≡ length (decimal (length cs)) → length o < length w + n + 2 →
+        Listed (callsOf t w cs) o o short
     calls-not-1 n e h = listed-not _ o (omega (arith, calls-long))
 
     module _ (n : ℕ) (e : n ≡ length (decimal (length cs))) (h : length w + n + 2 ≤ length o) where
-      pub calls-not-2 : leb (length (entries t 0 cs)) (length o - (length w + n + 2)) ≡ false → Listed (callsText t w cs) o o short
-      calls-not-2 f = listed-not _ o (omega (arith, calls-long, leb-false (length (entries t 0 cs)) (length o - (length w + n + 2)) f))
+      pub calls-not-2 :
+          leb (length (entriesOf t 0 cs)) (length o - (length w + n + 2)) ≡ false →
+          Listed (callsOf t w cs) o o short
+      calls-not-2 f =
+          listed-not _ o
+          (omega (arith, calls-long, leb-false (length (entriesOf t 0 cs)) (length o - (length w + n + 2)) f))
 
-      module _ (f : leb (length (entries t 0 cs)) (length o - (length w + n + 2)) ≡ true) where
-        fits : length w + n + 2 + length (entries t 0 cs) ≤ length o
-        fits = omega (arith, leb-true (length (entries t 0 cs)) (length o - (length w + n + 2)) f)
+      module _ (f : leb (length (entriesOf t 0 cs)) (length o - (length w + n + 2)) ≡ true) where
+        fits : length w + n + 2 + length (entriesOf t 0 cs) ≤ length o
+        fits = omega (arith, leb-true (length (entriesOf t 0 cs)) (length o - (length w + n + 2)) f)
 
         pub room-a : 0 + (length w + 1) ≤ length o
         room-a = omega (arith, fits)
@@ -74,7 +89,7 @@ module _ (t w cs : List ℕ) where
           room-b = omega (arith, fits, w₁ .place, wrote-long w₁, ended-long w tab)
 
           module _ {o₂ : List ℕ} {k₂ : ℕ} (w₂ : Wrote o₁ k₁ (decimal (length cs) ++ (lf ∷ [])) o₂ k₂) where
-            pub room-c : k₂ + length (entries t 0 cs) ≤ length o₂
+            pub room-c : k₂ + length (entriesOf t 0 cs) ≤ length o₂
             room-c =
                 omega (
                   arith,
@@ -88,8 +103,8 @@ module _ (t w cs : List ℕ) where
                 )
 
             pub calls-all :
-                {o₃ : List ℕ} {k₃ : ℕ} → Wrote o₂ k₂ (entries t 0 cs) o₃ k₃ →
-                Listed (callsText t w cs) o o₃ (record { number = 0; place = k₃ })
+                {o₃ : List ℕ} {k₃ : ℕ} → Wrote o₂ k₂ (entriesOf t 0 cs) o₃ k₃ →
+                Listed (callsOf t w cs) o o₃ (record { number = 0; place = k₃ })
             unfolding callsText
             calls-all w₃ =
                 listed-all (rw (two-fields w (decimal (length cs))) at (wrote-then (wrote-then w₁ w₂) w₃))
@@ -97,7 +112,9 @@ module _ (t w cs : List ℕ) where
 -- ---- a refusal
 
 module _ (n k : ℕ) where
-  three-fields : ((refused ++ (tab ∷ [])) ++ (decimal n ++ (tab ∷ []))) ++ (decimal k ++ (lf ∷ [])) ≡ refusalText n k
+  three-fields :
+      ((ascii "refused" ++ (tab ∷ [])) ++ (decimal n ++ (tab ∷ []))) ++ (decimal k ++ (lf ∷ []))
+      ≡ refusalText n k
   unfolding refusalText printed
   three-fields = simp append-assoc
 
@@ -106,14 +123,16 @@ module _ (n k : ℕ) where
 
   module _ {o₁ o₂ o₃ : List ℕ} {o : List ℕ} {k₁ k₂ k₃ : ℕ} where
     pub refusal-all :
-        Wrote o 0 (refused ++ (tab ∷ [])) o₁ k₁ → Wrote o₁ k₁ (decimal n ++ (tab ∷ [])) o₂ k₂ →
-        Wrote o₂ k₂ (decimal k ++ (lf ∷ [])) o₃ k₃ → Listed (refusalText n k) o o₃ (record { number = 0; place = k₃ })
+        Wrote o 0 (ascii "refused" ++ (tab ∷ [])) o₁ k₁ → Wrote o₁ k₁ (decimal n ++ (tab ∷ [])) o₂ k₂ →
+        Wrote o₂ k₂ (decimal k ++ (lf ∷ [])) o₃ k₃ →
+        Listed (refusalText n k) o o₃ (record { number = 0; place = k₃ })
     refusal-all w₁ w₂ w₃ = listed-all (rw three-fields at (wrote-then (wrote-then w₁ w₂) w₃))
 
 -- ---- the places noted
 
 pub noted-part :
-    {w t places after : List ℕ} {n : ℕ} → Noted w t places after n → take n after ≡ take (length places) (beginsFrom w t 0)
+    {w t places after : List ℕ} {n : ℕ} →
+    Noted w t places after n → take n after ≡ take (length places) (beginsFrom w t 0)
 noted-part {w} {t} {places} {after} {n} g =
     rw (g .front) (take-at (take (length places) (beginsFrom w t 0)) _ n (sym (g .count)))
 
@@ -125,18 +144,19 @@ noted-fits {w} {t} {places} {after} {n} g =
 -- ---- what an ordering answered
 
 module _ (t : List ℕ) (n k : ℕ) (calls cs : List ℕ) where
-  pub outcome-order : cs ≡ part calls 0 k → n ≡ 0 → callsText t order cs ≡ outcomeText t n k calls
+  pub outcome-order :
+      cs ≡ part calls 0 k → n ≡ 0 → callsOf t (ascii "order") cs ≡ outcomeOf t (outcome n k (part calls 0 k))
   unfolding outcomeText
   outcome-order e z = rw (e, eq-eqb n 0 z)
 
-  pub outcome-cycle : cs ≡ part calls 0 k → (n ≡ 0 → ⊥) → n ≡ 9 → callsText t cycle cs ≡ outcomeText t n k calls
+  pub outcome-cycle :
+      cs ≡ part calls 0 k → (n ≡ 0 → ⊥) → n ≡ 9 →
+      callsOf t (ascii "cycle") cs ≡ outcomeOf t (outcome n k (part calls 0 k))
   unfolding outcomeText
   outcome-cycle e z o = rw (e, ne-eqb n 0 z, eq-eqb n 9 o)
 
 pub outcome-refused :
-    (t : List ℕ) (n k : ℕ) (calls : List ℕ) → (n ≡ 0 → ⊥) → (n ≡ 9 → ⊥) → refusalText n k ≡ outcomeText t n k calls
+    (t : List ℕ) (n k : ℕ) (cs : List ℕ) → (n ≡ 0 → ⊥) → (n ≡ 9 → ⊥) →
+    refusalText n k ≡ outcomeOf t (outcome n k cs)
 unfolding outcomeText
-outcome-refused t n k calls z o = rw (ne-eqb n 0 z, ne-eqb n 9 o)
-
-pub same-listed : {s r o after : List ℕ} {a : Answer} → s ≡ r → Listed s o after a → Listed r o after a
-same-listed e l = rw (← e) l
+outcome-refused t n k cs z o = rw (ne-eqb n 0 z, ne-eqb n 9 o)

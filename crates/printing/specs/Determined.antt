@@ -1,11 +1,17 @@
--- Any two permitted answers are equal.
-use mathlib.Core.Path.{_≡_, sym, _∙_}
+-- Any two permitted answers are equal, and any two buffers that are left.
+use mathlib.Core.Path.{_≡_}
 use mathlib.Core.List.{List}
 use Prim.Native.Nat.{ℕ}
+use lib.ListN.{length}
+use Rattle.search.specs.Front.{fronted}
 use Rattle.table.specs.declared.Answer.{Answer}
-use Rattle.printing.specs.Listed.{Listed}
+use Rattle.table.specs.Outcome.{Outcome}
+use Rattle.table.specs.Determined.{Determined, same-answer}
+use Rattle.printing.specs.Listed.{listed}
 
--- of `put_calls` at the text of the calls, and of `put_refusal` at the text of the refusal
-pub listed-determined :
-    (s out a b : List ℕ) (p q : Answer) → Listed s out a p → Listed s out b q → (a ≡ b) × (p ≡ q)
-listed-determined s out a b p q l m = (l .bytes ∙ sym (m .bytes), l .answer ∙ sym (m .answer))
+-- of `put_calls` at the text of calls, of `put_refusal` at that of a refusal, of `put_outcome` at either
+pub put-determined : (s out : List ℕ) → Determined Answer (listed s (length out) .answer)
+put-determined s out = same-answer
+
+pub put-leaves : (s out : List ℕ) → Determined (List ℕ) (fronted (listed s (length out) .bytes) out)
+put-leaves s out = same-answer

@@ -1,7 +1,7 @@
 -- What the lister prints.
 pub mod Printed
 pub mod Entries
-pub mod Places
-pub mod Indexed
 pub mod Listed
+pub mod Indexed
+pub mod Places
 pub mod Determined

@@ -7,8 +7,7 @@ ghost use Prim.Native.Nat.{_+_, _≤_};
 ghost use lib.ListN.{length};
 ghost use lib.Dec.{leb};
 ghost use Rattle.pen.specs.Chain.{Wrote};
-ghost use Rattle.printing.specs.Entries.{entries};
-ghost use Rattle.printing.specs.Indexed.{Indexed};
+ghost use Rattle.printing.specs.Indexed.{Indexed, entriesOf};
 
 // Do the lines of these calls fit into so many bytes?
 pub fn entries_fit(
@@ -20,7 +19,7 @@ pub fn entries_fit(
     room: usize,
 ) -> bool
     requires { ⌜ Indexed (now text) (now units) (now outputs) (now inputs) ⌝ }
-    ensures { λ r. ⌜ r ≡ leb (length (entries (now (text .entry)) 0 (now (calls .entry)))) room ⌝ }
+    ensures { λ r. ⌜ r ≡ leb (length (entriesOf (now (text .entry)) 0 (now (calls .entry)))) room ⌝ }
 {
     let mut left = room;
     let mut i = 0;
@@ -47,8 +46,9 @@ pub fn put_entries(
     at: usize,
 ) -> usize
     requires { ⌜ Indexed (now text) (now units) (now outputs) (now inputs) ⌝ }
-    requires { ⌜ at + length (entries (now text) 0 (now calls)) ≤ length (now out) ⌝ }
-    ensures { λ r. ⌜ Wrote (now (out .entry)) at (entries (now (text .entry)) 0 (now (calls .entry))) (now (out .exit)) r ⌝ }
+    requires { ⌜ at + length (entriesOf (now text) 0 (now calls)) ≤ length (now out) ⌝ }
+    ensures { λ r. ⌜ Wrote (now (out .entry)) at (entriesOf (now (text .entry)) 0 (now (calls .entry)))
+        (now (out .exit)) r ⌝ }
 {
     let mut end = at;
     let mut i = 0;

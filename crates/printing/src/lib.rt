@@ -12,9 +12,13 @@ use pen::digit_count;
 use table::Answer;
 use table::parts::stretch;
 ghost use mathlib.Core.Path.{_≡_};
-ghost use Rattle.printing.specs.Entries.{callsText, outcomeText, refusalText};
-ghost use Rattle.printing.specs.Indexed.{Indexed};
-ghost use Rattle.printing.specs.Listed.{Listed};
+ghost use lib.ListN.{length};
+ghost use Rattle.search.specs.Front.{fronted};
+ghost use Rattle.table.specs.Outcome.{outcome};
+ghost use Rattle.table.specs.Packed.{part};
+ghost use Rattle.printing.specs.Entries.{refusalText};
+ghost use Rattle.printing.specs.Indexed.{Indexed, callsOf, outcomeOf};
+ghost use Rattle.printing.specs.Listed.{listed};
 
 // The heading, how many calls, and their lines.
 fn put_lines(
@@ -27,7 +31,12 @@ fn put_lines(
     out: &mut [u8],
 ) -> Answer
     requires { ⌜ Indexed (now text) (now units) (now outputs) (now inputs) ⌝ }
-    ensures { λ r. ⌜ Listed (callsText (now (text .entry)) (now (heading .entry)) (now (calls .entry))) (now (out .entry)) (now (out .exit)) r ⌝ }
+    ensures { λ r. ⌜ r
+        ≡ listed (callsOf (now (text .entry)) (now (heading .entry)) (now (calls .entry)))
+        (length (now (out .entry))) .answer ⌝ }
+    ensures { λ r. ⌜ now (out .exit)
+        ≡ fronted (listed (callsOf (now (text .entry)) (now (heading .entry)) (now (calls .entry)))
+        (length (now (out .entry))) .bytes) (now (out .entry)) ⌝ }
 {
     let front = heading.len() + digit_count(calls.len()) + 2;
     if out.len() < front {
@@ -53,7 +62,12 @@ fn put_lines(
 
 // Writes the heading, how many calls there are, and a line for each, with names from the text.
 pub fn put_calls(text: &[u8], heading: &[u8], calls: &[u8], out: &mut [u8]) -> Answer
-    ensures { λ r. ⌜ Listed (callsText (now (text .entry)) (now (heading .entry)) (now (calls .entry))) (now (out .entry)) (now (out .exit)) r ⌝ }
+    ensures { λ r. ⌜ r
+        ≡ listed (callsOf (now (text .entry)) (now (heading .entry)) (now (calls .entry)))
+        (length (now (out .entry))) .answer ⌝ }
+    ensures { λ r. ⌜ now (out .exit)
+        ≡ fronted (listed (callsOf (now (text .entry)) (now (heading .entry)) (now (calls .entry)))
+        (length (now (out .entry))) .bytes) (now (out .entry)) ⌝ }
 {
     let mut units = [0u16; 32];
     let mut outputs = [0u16; 96];
@@ -74,7 +88,9 @@ pub fn put_calls(text: &[u8], heading: &[u8], calls: &[u8], out: &mut [u8]) -> A
 
 // Writes a refusal: its number and its line.
 pub fn put_refusal(number: u8, line: usize, out: &mut [u8]) -> Answer
-    ensures { λ r. ⌜ Listed (refusalText number line) (now (out .entry)) (now (out .exit)) r ⌝ }
+    ensures { λ r. ⌜ r ≡ listed (refusalText number line) (length (now (out .entry))) .answer ⌝ }
+    ensures { λ r. ⌜ now (out .exit)
+        ≡ fronted (listed (refusalText number line) (length (now (out .entry))) .bytes) (now (out .entry)) ⌝ }
 {
     let n = number as usize;
     if out.len() < digit_count(n) + digit_count(line) + 10 {
@@ -92,9 +108,16 @@ pub fn put_refusal(number: u8, line: usize, out: &mut [u8]) -> Answer
     }
 }
 
-// Writes what an ordering answered: an order, a cycle, or a refusal; the calls stand at the front of its buffer.
+// Writes what an ordering answered: an order, a cycle, or a refusal; its calls stand at the buffer's front.
 pub fn put_outcome(text: &[u8], answer: Answer, buffer: &[u8], out: &mut [u8]) -> Answer
-    ensures { λ r. ⌜ Listed (outcomeText (now (text .entry)) (answer .number) (answer .place) (now (buffer .entry))) (now (out .entry)) (now (out .exit)) r ⌝ }
+    ensures { λ r. ⌜ r
+        ≡ listed (outcomeOf (now (text .entry))
+        (outcome (answer .number) (answer .place) (part (now (buffer .entry)) 0 (answer .place))))
+        (length (now (out .entry))) .answer ⌝ }
+    ensures { λ r. ⌜ now (out .exit)
+        ≡ fronted (listed (outcomeOf (now (text .entry))
+        (outcome (answer .number) (answer .place) (part (now (buffer .entry)) 0 (answer .place))))
+        (length (now (out .entry))) .bytes) (now (out .entry)) ⌝ }
 {
     let place = answer.place;
     let calls = stretch(buffer, 0, place);

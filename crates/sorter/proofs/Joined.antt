@@ -14,7 +14,8 @@ use Rattle.table.specs.Checked.{passed-sound, few-calls}
 use Rattle.calls.specs.Precedence.{precedes}
 use Rattle.orders.specs.Remains.{placed-le}
 use Rattle.orders.specs.Turn.{turn}
-use Rattle.placing.specs.Placing.{Outcome, outcome, callCount, placedOf, placing}
+use Rattle.table.specs.Outcome.{Outcome, outcome}
+use Rattle.placing.specs.Placing.{callCount, placedOf, placing}
 use Rattle.placing.specs.Placed.{placing-unsound, placing-done}
 use Rattle.sorter.specs.Ordering.{shownOf, ordering}
 use Rattle.sorter.specs.Answers.{

@@ -1,13 +1,15 @@
 -- What is answered, case by case.
-use mathlib.Core.Path.{_≡_}
+use mathlib.Core.Path.{_≡_, refl, sym}
+use mathlib.Core.Bool.{Bool, true, false, cond}
 use mathlib.Core.List.{List, []}
 use Prim.Native.Nat.{ℕ, _≤_, _<_}
-use lib.Dec.{eqb}
+use lib.Dec.{eqb, leb}
 use lib.ListN.{length}
-use borrow.Author.Tests.{le-leb, lt-leb}
+use borrow.Author.Tests.{le-leb, lt-leb, eqb-true}
 use Rattle.search.specs.Truth.{is-true, is-false, eq-true, eq-false}
 use Rattle.table.specs.Check.{refusal}
-use Rattle.placing.specs.Placing.{outcome, callCount, placedOf}
+use Rattle.table.specs.Outcome.{Outcome, outcome}
+use Rattle.placing.specs.Placing.{callCount, placedOf}
 use Rattle.sorter.specs.Ordering.{shownOf, stopped, settled, ordering}
 
 module _ (t : List ℕ) (room : ℕ) where
@@ -41,3 +43,26 @@ module _ (t : List ℕ) where
   pub stopped-shown : (length (shownOf t) ≡ 0 → ⊥) → stopped t ≡ outcome 9 (length (shownOf t)) (shownOf t)
   unfolding stopped
   stopped-shown n = rw (is-false (eqb (length (shownOf t)) 0) (eq-false (length (shownOf t)) 0 n))
+
+abbrev Long : Outcome → Type 0
+Long o = o .answer .place ≡ length (o .bytes)
+
+-- the place tells how many bytes are written
+pub ordering-long : (t : List ℕ) (room : ℕ) → ordering t room .answer .place ≡ length (ordering t room .bytes)
+unfolding ordering settled stopped
+ordering-long t room =
+    go (eqb (refusal t) 0) (leb (callCount t) room) (eqb (length (placedOf t)) (callCount t)) refl
+    (eqb (length (shownOf t)) 0)
+  where
+    go : (a b c : Bool) → eqb (length (placedOf t)) (callCount t) ≡ c → (d : Bool) → Long
+        (cond a
+        (cond b
+        (cond c (outcome 0 (callCount t) (placedOf t))
+        (cond d (outcome 10 0 []) (outcome 9 (length (shownOf t)) (shownOf t))))
+        (outcome 8 0 []))
+        (outcome (refusal t) 0 []))
+    go false b c e d = refl
+    go true false c e d = refl
+    go true true true e d = sym (eqb-true _ _ e)
+    go true true false e true = refl
+    go true true false e false = refl

@@ -18,10 +18,11 @@ use Rattle.orders.specs.First.{First}
 use Rattle.orders.specs.Sorted.{placed-first}
 use Rattle.orders.specs.Remains.{placed-le}
 use Rattle.orders.specs.Shown.{Shown, shown-is, placed-iff}
-use Rattle.placing.specs.Placing.{Outcome, outcome, callCount, placedOf}
+use Rattle.table.specs.Outcome.{Outcome, outcome}
+use Rattle.placing.specs.Placing.{callCount, placedOf}
 use Rattle.sorter.specs.Ordering.{shownOf, ordering}
 use Rattle.sorter.specs.OrderOrCycle.{OrderOrCycle}
-use Rattle.sorter.specs.Answers.{ordering-settled, settled-all, settled-some, stopped-shown}
+use Rattle.sorter.specs.Answers.{ordering-settled, settled-all, settled-some, stopped-shown, ordering-long}
 
 module _ (t : List ℕ) (room : ℕ) (sound : Sound t) (enough : callCount t ≤ room) where
   -- a cycle of the table's calls
@@ -108,18 +109,13 @@ module _ (t : List ℕ) (room : ℕ) (sound : Sound t) (enough : callCount t ≤
 
 -- ---- the clause of `order` that states the demand follows from those that determine the answer and the bytes
 module _ (t out : List ℕ) (sound : Sound t) (enough : callCount t ≤ length out) where
-  -- as many bytes stand at the front as the place says
-  given : length (ordering t (length out) .bytes) ≡ ordering t (length out) .answer .place
-  given = elim (ℕ-discrete (length (placedOf t)) (callCount t)) [
-    | yes p ↦ rw (all-placed t (length out) sound enough p .0) p
-    | no p ↦ rw (not-placed t (length out) sound enough p .0)
-  ]
-
+  -- the bytes that were given stand at the front
   front : take (ordering t (length out) .answer .place) (fronted (ordering t (length out) .bytes) out)
       ≡ ordering t (length out) .bytes
   front =
       let bytes = ordering t (length out) .bytes in
-      take-at bytes (drop (length bytes) out) (ordering t (length out) .answer .place) given
+      take-at bytes (drop (length bytes) out) (ordering t (length out) .answer .place)
+      (sym (ordering-long t (length out)))
 
   pub order-or-cycle : OrderOrCycle t (ordering t (length out) .answer)
       (take (ordering t (length out) .answer .place) (fronted (ordering t (length out) .bytes) out))

@@ -9,7 +9,8 @@ use Rattle.table.specs.Check.{refusal}
 use Rattle.calls.specs.Precedence.{precedes}
 use Rattle.orders.specs.Walk.{among}
 use Rattle.orders.specs.Turn.{shown}
-use Rattle.placing.specs.Placing.{Outcome, outcome, callCount, placedOf}
+use Rattle.table.specs.Outcome.{Outcome, outcome}
+use Rattle.placing.specs.Placing.{callCount, placedOf}
 
 -- the cycle of what remains, by the walk of "The cycle shown"
 unfoldable pub shownOf : List ℕ → List ℕ

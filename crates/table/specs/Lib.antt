@@ -2,6 +2,7 @@ pub mod Shape
 pub mod Packed
 pub mod Sound
 pub mod Check
+pub mod Outcome
 pub mod Layout
 pub mod Chain
 pub mod Wiring

@@ -5,7 +5,6 @@ use Rattle.declarations.proofs.opens.Tie as tie
 use native.Mathlib.Omega.{arith}
 use Rattle.grammar.specs.Words.{same}
 use Rattle.grammar.specs.Rows.{stretch}
-use Rattle.declarations.specs.Lines.{opens}
 use Rattle.declarations.proofs.Noting.{first-part}
 
 element-copy-out-from : tie.Need-element-copy-out-from
@@ -33,7 +32,7 @@ same-requires : tie.Need-same-requires
 same-requires c κs = search needs
 
 returns : tie.Need-returns
-unfolding opens stretch
+unfolding stretch
 returns c = rw (← first-part (c .before .before .before .before .before .before .pre .0) (c .before .before .before .before .before .before .pre .1) .bytes) (c .same .ensures)
 
 pub opens-spec : {M : Type 1} → statement M

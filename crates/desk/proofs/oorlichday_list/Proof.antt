@@ -6,6 +6,9 @@ use mathlib.Core.Path.{ap}
 use Rattle.table.specs.declared.Answer.{Answer}
 use Rattle.desk.specs.declared.Reading.{Reading}
 
+abbrev told : Answer → Reading
+told a = record { number = a .number; place = a .place }
+
 list-requires : tie.Need-list-requires
 list-requires c κs = search needs
 
@@ -13,7 +16,7 @@ same-length : tie.Need-same-length
 same-length c = search needs
 
 returns : tie.Need-returns
-returns c = record { answer = ap (λ (a : Answer). (let r : Reading = record { number = a .number; place = a .place } in r)) (c .before .before .list .ensures .answer); bytes = c .before .before .list .ensures .bytes }
+returns c = (ap told (c .before .before .list .ensures .0), c .before .before .list .ensures .1)
 
 pub oorlichday-list-spec : {M : Type 1} → statement M
 oorlichday-list-spec = tie.close (tie.spec list-requires same-length returns)

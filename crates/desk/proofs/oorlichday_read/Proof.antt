@@ -6,6 +6,9 @@ use mathlib.Core.Path.{ap}
 use Rattle.text.specs.declared.Answer.{Answer}
 use Rattle.desk.specs.declared.Reading.{Reading}
 
+abbrev told : Answer → Reading
+told a = record { number = a .number; place = a .place }
+
 read-requires : tie.Need-read-requires
 read-requires c κs = search needs
 
@@ -13,7 +16,7 @@ same-length : tie.Need-same-length
 same-length c = search needs
 
 returns : tie.Need-returns
-returns c = record { answer = ap (λ (a : Answer). (let r : Reading = record { number = a .number; place = a .place } in r)) (c .before .before .read .ensures .0); bytes = c .before .before .read .ensures .1 }
+returns c = (ap told (c .before .before .read .ensures .0), c .before .before .read .ensures .1)
 
 pub oorlichday-read-spec : {M : Type 1} → statement M
 oorlichday-read-spec = tie.close (tie.spec read-requires same-length returns)
