@@ -1,4 +1,7 @@
 pub mod Proper
 pub mod Kept
+pub mod Takes
+pub mod Found
+pub mod Declared
 pub mod Parts
 pub mod Sound
