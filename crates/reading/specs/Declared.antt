@@ -106,7 +106,7 @@ inputs-run {d} (goes-on {last = last} {f = f} {fs = fs} (takes-join w u y v x s)
     ∙ no-more _ _ _ _ _ _ w tt
 
 -- an input is found by what is left without its source and its line
-named-bare : (d : Draft) (u : ℕ) (w : List ℕ)
+pub named-bare : (d : Draft) (u : ℕ) (w : List ℕ)
     → place (λ i. eqb (i .owner) u && same (i .name) w) (map bare (d .inputs)) ≡ inputNamed d u w
 unfolding inputNamed
 named-bare d u w = place-map (λ i. eqb (i .owner) u && same (i .name) w) bare (d .inputs)
