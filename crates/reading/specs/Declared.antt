@@ -90,19 +90,24 @@ unfolding outputNamed onward
 output-stays {d} r u w h =
     rw (outputs-run r) (sym (place-front (λ o. eqb (o .owner) u && same (o .name) w) (d .outputs) _ h))
 
+-- a join changes no more than a source
+pub bare-join : (d : Draft) (x y : ℕ) → map bare (addJoin d x y .inputs) ≡ map bare (d .inputs)
+unfolding addJoin joined
+bare-join d x y = map-set-same bare (d .inputs) x _ noInput refl
+
 pub inputs-run : {d last : Draft} {k : ℕ} {fs : List (List (List ℕ))} → Runs d k fs last
     → map bare (last .inputs) ≡ onward (ascii "in") (inputBy last) (map bare (d .inputs)) fs
-unfolding same addUnit addOutput addInput addFeed addJoin joined
+unfolding same addUnit addOutput addInput addFeed
 inputs-run ends = at-first _ _ _
 inputs-run (goes-on (takes-unit w n) r) = inputs-run r ∙ no-more _ _ _ _ _ _ w tt
 inputs-run (goes-on (takes-output w u n) r) = inputs-run r ∙ no-more _ _ _ _ _ _ w tt
-inputs-run {d} (goes-on {last = last} {f = f} {fs = fs} (takes-input w u n) r) =
+inputs-run {d} (goes-on {last = last} {fs = fs} (takes-input w u n) r) =
     let s = unit-stays (goes-on (takes-input w u n) r) _ u in
     inputs-run r ∙ ap (λ z. onward (ascii "in") (inputBy last) z fs) (map-append bare (d .inputs) _)
     ∙ one-more _ _ (map bare (d .inputs)) _ _ _ w (rw s)
 inputs-run (goes-on (takes-feed w u x y) r) = inputs-run r ∙ no-more _ _ _ _ _ _ w tt
-inputs-run {d} (goes-on {last = last} {f = f} {fs = fs} (takes-join w u y v x s) r) =
-    inputs-run r ∙ ap (λ z. onward (ascii "in") (inputBy last) z fs) (map-set-same bare (d .inputs) _ _ noInput refl)
+inputs-run {d} (goes-on {last = last} {fs = fs} (takes-join w u y v x s) r) =
+    inputs-run r ∙ ap (λ z. onward (ascii "in") (inputBy last) z fs) (bare-join d _ _)
     ∙ no-more _ _ _ _ _ _ w tt
 
 -- an input is found by what is left without its source and its line

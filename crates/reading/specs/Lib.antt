@@ -4,5 +4,6 @@ pub mod Takes
 pub mod Found
 pub mod Declared
 pub mod Joined
+pub mod Once
 pub mod Parts
 pub mod Sound
