@@ -5,5 +5,6 @@ pub mod Found
 pub mod Declared
 pub mod Joined
 pub mod Once
+pub mod Reads
 pub mod Parts
 pub mod Sound
