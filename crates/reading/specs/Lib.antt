@@ -6,5 +6,7 @@ pub mod Declared
 pub mod Joined
 pub mod Once
 pub mod Reads
+pub mod Numbers
+pub mod Named
 pub mod Parts
 pub mod Sound

@@ -1,0 +1,106 @@
+-- The numbers of the draft that the lines leave are those in line order.
+use Prim.Native.Nat.{ℕ, suc, _<_, _≤_}
+use mathlib.Core.Path.{_≡_, refl, ap, sym, _∙_, subst}
+use mathlib.Core.Bool.{Bool, true, false, not, cond, _&&_}
+use mathlib.Core.List.{List, [], _∷_, _++_, map, map-map}
+use native.Mathlib.Omega.{arith}
+use lib.ListN.{length, getD, length-map}
+use lib.Dec.{T, eqb, eqb→eq}
+use borrow.Author.Tests.{eqb-true, eq-eqb}
+use Rattle.search.specs.Truth.{is-true, holds, T-and, and-T, same-test, eq-true}
+use Rattle.grammar.specs.Quoted.{ascii}
+use Rattle.grammar.specs.Words.{same}
+use Rattle.grammar.specs.Same.{same-true, same-self}
+use Rattle.grammar.specs.Rows.{word, place}
+use Rattle.grammar.specs.Places.{place-is}
+use Rattle.grammar.specs.Opening.{linesOf}
+use Rattle.grammar.specs.Draft.{Draft, Output, Input, blank, noInput, unitNamed, outputNamed, inputNamed}
+use Rattle.reading.specs.Proper.{Proper, noOutput}
+use Rattle.reading.specs.Parts.{map-in}
+use Rattle.reading.specs.Takes.{Runs}
+use Rattle.reading.specs.Found.{place-map, place-alike, Once}
+use Rattle.reading.specs.Declared.{onward, outputBy, inputBy, feedBy, bare, units-run, outputs-run, inputs-run, feeds-run, named-bare}
+use Rattle.reading.specs.Numbers.{unitNumber, portNumber, outputNumber, inputNumber, feedNumbers}
+
+module _ (d : Draft) (fs : List (List (List ℕ))) (r : Runs blank 2 fs d) (g : Proper d) where
+  abbrev unitLines : List (List (List ℕ))
+  unitLines = linesOf (ascii "unit") fs
+
+  abbrev outputLines : List (List (List ℕ))
+  outputLines = linesOf (ascii "out") fs
+
+  abbrev inputLines : List (List (List ℕ))
+  inputLines = linesOf (ascii "in") fs
+
+  -- ---- what the draft holds
+  pub units-are : d .units ≡ map (λ f. word f 1) unitLines
+  unfolding onward blank
+  units-are = units-run r
+
+  pub outputs-are : d .outputs ≡ map (outputBy d) outputLines
+  unfolding onward blank
+  outputs-are = outputs-run r
+
+  pub inputs-are : map bare (d .inputs) ≡ map (inputBy d) inputLines
+  unfolding onward blank
+  inputs-are = inputs-run r
+
+  pub feeds-are : d .feeds ≡ map (feedBy d) (linesOf (ascii "feed") fs)
+  unfolding onward blank
+  feeds-are = feeds-run r
+
+  -- ---- a unit's number
+  pub unit-named : (w : List ℕ) → unitNamed d w ≡ unitNumber fs w
+  unfolding unitNamed unitNumber
+  unit-named w = ap (place (λ n. same n w)) units-are ∙ place-map (λ n. same n w) (λ f. word f 1) unitLines
+
+  -- the name at the number of a unit that is known
+  name-of : (w : List ℕ) → unitNamed d w < length (d .units) → getD (d .units) (unitNamed d w) [] ≡ w
+  unfolding unitNamed
+  name-of w h = same-true _ w (place-is (λ n. same n w) [] (d .units) .passes h)
+
+  -- one number, one name
+  owner-alike : (a v : List ℕ) → unitNamed d a < length (d .units) → eqb (unitNamed d a) (unitNamed d v) ≡ same a v
+  owner-alike a v h = same-test _ _
+      (λ t.
+        let e : unitNamed d a ≡ unitNamed d v = eqb→eq _ _ t in
+        let n : a ≡ v = sym (name-of a h) ∙ ap (λ u. getD (d .units) u []) e ∙ name-of v (subst (λ u. u < length (d .units)) e h) in
+        rw n (same-self v))
+      (λ t. eq-true (unitNamed d a) (unitNamed d v) (ap (unitNamed d) (same-true a v t)))
+
+  -- ---- a port's number
+  output-known : (y : ℕ) → y < length outputLines → unitNamed d (word (getD outputLines y []) 1) < length (d .units)
+  output-known y h =
+      let q : y < length (d .outputs) = rw (outputs-are, length-map outputLines (outputBy d)) h in
+      let o : getD (d .outputs) y noOutput ≡ outputBy d (getD outputLines y []) =
+          ap (λ l. getD l y noOutput) outputs-are ∙ map-in (outputBy d) [] noOutput outputLines y h in
+      subst (λ (z : Output). z .owner < length (d .units)) o (g .output-owned y q)
+
+  pub output-named : (v w : List ℕ) → outputNamed d (unitNamed d v) w ≡ outputNumber fs v w
+  unfolding outputNamed portNumber
+  output-named v w =
+      let p : Output → Bool = λ o. eqb (o .owner) (unitNamed d v) && same (o .name) w in
+      ap (place p) outputs-are ∙ place-map p (outputBy d) outputLines
+      ∙ place-alike _ _ [] outputLines
+          (λ i h. ap (λ b. b && same (word (getD outputLines i []) 2) w) (owner-alike (word (getD outputLines i []) 1) v (output-known i h)))
+
+  input-known : (x : ℕ) → x < length inputLines → unitNamed d (word (getD inputLines x []) 1) < length (d .units)
+  input-known x h =
+      let l : length (map bare (d .inputs)) ≡ length (map (inputBy d) inputLines) = ap length inputs-are in
+      let q : x < length (d .inputs) = omega (arith, length-map (d .inputs) bare, length-map inputLines (inputBy d)) in
+      let o : bare (getD (d .inputs) x noInput) ≡ inputBy d (getD inputLines x []) =
+          sym (map-in bare noInput noInput (d .inputs) x q) ∙ ap (λ l. getD l x noInput) inputs-are
+          ∙ map-in (inputBy d) [] noInput inputLines x h in
+      subst (λ (z : Input). z .owner < length (d .units)) o (g .input-owned x q)
+
+  pub input-named : (v w : List ℕ) → inputNamed d (unitNamed d v) w ≡ inputNumber fs v w
+  unfolding portNumber
+  input-named v w =
+      let p : Input → Bool = λ i. eqb (i .owner) (unitNamed d v) && same (i .name) w in
+      sym (named-bare d (unitNamed d v) w) ∙ ap (place p) inputs-are ∙ place-map p (inputBy d) inputLines
+      ∙ place-alike _ _ [] inputLines
+          (λ i h. ap (λ b. b && same (word (getD inputLines i []) 2) w) (owner-alike (word (getD inputLines i []) 1) v (input-known i h)))
+
+  pub feed-named : (f : List (List ℕ)) → feedBy d f ≡ feedNumbers fs f
+  unfolding feedNumbers
+  feed-named f = rw (input-named (word f 1) (word f 2), output-named (word f 1) (word f 3))

@@ -1,0 +1,52 @@
+-- The table of a text by its lines alone: which number each declaration has, and the bytes.
+use Prim.Native.Nat.{ℕ}
+use mathlib.Core.Bool.{_&&_}
+use mathlib.Core.List.{List, [], _∷_, _++_, map}
+use lib.ListN.{length, getD}
+use Rattle.grammar.specs.Quoted.{ascii}
+use Rattle.grammar.specs.Words.{same}
+use Rattle.grammar.specs.Rows.{word, place}
+use Rattle.grammar.specs.Opening.{linesOf}
+use Rattle.grammar.specs.Draft.{Feed}
+use Rattle.grammar.specs.Lines.{kindOf}
+use Rattle.grammar.specs.Reading.{pairs}
+
+-- "Numbers are given in line order": the place of the unit n among the `unit` lines
+unfoldable pub unitNumber : List (List (List ℕ)) → List ℕ → ℕ
+unitNumber fs n = place (λ f. same (word f 1) n) (linesOf (ascii "unit") fs)
+
+-- the place of the port n of the unit u among the lines that open with w
+unfoldable pub portNumber : List ℕ → List (List (List ℕ)) → List ℕ → List ℕ → ℕ
+portNumber w fs u n = place (λ f. same (word f 1) u && same (word f 2) n) (linesOf w fs)
+
+abbrev pub outputNumber : List (List (List ℕ)) → List ℕ → List ℕ → ℕ
+outputNumber = portNumber (ascii "out")
+
+abbrev pub inputNumber : List (List (List ℕ)) → List ℕ → List ℕ → ℕ
+inputNumber = portNumber (ascii "in")
+
+-- the line that joins the input n of the unit u
+unfoldable pub joinOf : List (List (List ℕ)) → List ℕ → List ℕ → List (List ℕ)
+joinOf fs u n =
+    let joins = linesOf (ascii "join") fs in
+    getD joins (place (λ f. same (word f 3) u && same (word f 4) n) joins) []
+
+-- the output that this line names
+unfoldable pub sourceNumber : List (List (List ℕ)) → List ℕ → List ℕ → ℕ
+sourceNumber fs u n = outputNumber fs (word (joinOf fs u n) 1) (word (joinOf fs u n) 2)
+
+-- the pair that a `feed` line names
+unfoldable pub feedNumbers : List (List (List ℕ)) → List (List ℕ) → Feed
+feedNumbers fs f = record { input = inputNumber fs (word f 1) (word f 2); output = outputNumber fs (word f 1) (word f 3) }
+
+-- "The packed table": counts, owners of outputs and of inputs, kinds, sources, feeds
+unfoldable pub numbered : List (List (List ℕ)) → List ℕ
+numbered fs =
+    let units = linesOf (ascii "unit") fs in
+    let outputs = linesOf (ascii "out") fs in
+    let inputs = linesOf (ascii "in") fs in
+    let feeds = linesOf (ascii "feed") fs in
+    length units ∷ (length outputs ∷ (length inputs ∷ (length feeds ∷
+    (map (λ f. unitNumber fs (word f 1)) outputs ++ (map (λ f. unitNumber fs (word f 1)) inputs
+    ++ (map (λ f. kindOf (word f 3)) inputs ++ (map (λ f. sourceNumber fs (word f 1) (word f 2)) inputs
+    ++ pairs (map (feedNumbers fs) feeds))))))))
