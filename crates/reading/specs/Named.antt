@@ -20,6 +20,7 @@ use Rattle.reading.specs.Parts.{map-in}
 use Rattle.reading.specs.Takes.{Runs}
 use Rattle.reading.specs.Found.{place-map, place-alike, Once}
 use Rattle.reading.specs.Declared.{onward, outputBy, inputBy, feedBy, bare, units-run, outputs-run, inputs-run, feeds-run, named-bare}
+use Rattle.reading.specs.Once.{sameOutput, sameInput, units-once, outputs-once, inputs-once}
 use Rattle.reading.specs.Numbers.{unitNumber, portNumber, outputNumber, inputNumber, feedNumbers}
 
 module _ (d : Draft) (fs : List (List (List ℕ))) (r : Runs blank 2 fs d) (g : Proper d) where
@@ -69,12 +70,22 @@ module _ (d : Draft) (fs : List (List (List ℕ))) (r : Runs blank 2 fs d) (g : 
       (λ t. eq-true (unitNamed d a) (unitNamed d v) (ap (unitNamed d) (same-true a v t)))
 
   -- ---- a port's number
+  output-at-place : (y : ℕ) → y < length outputLines → getD (d .outputs) y noOutput ≡ outputBy d (getD outputLines y [])
+  output-at-place y h = ap (λ l. getD l y noOutput) outputs-are ∙ map-in (outputBy d) [] noOutput outputLines y h
+
+  input-at-place : (x : ℕ) → x < length inputLines → getD (map bare (d .inputs)) x noInput ≡ inputBy d (getD inputLines x [])
+  input-at-place x h = ap (λ l. getD l x noInput) inputs-are ∙ map-in (inputBy d) [] noInput inputLines x h
+
+  pub outputs-count : length (d .outputs) ≡ length outputLines
+  outputs-count = ap length outputs-are ∙ length-map outputLines (outputBy d)
+
+  pub inputs-count : length (d .inputs) ≡ length inputLines
+  inputs-count = sym (length-map (d .inputs) bare) ∙ ap length inputs-are ∙ length-map inputLines (inputBy d)
+
   output-known : (y : ℕ) → y < length outputLines → unitNamed d (word (getD outputLines y []) 1) < length (d .units)
   output-known y h =
-      let q : y < length (d .outputs) = rw (outputs-are, length-map outputLines (outputBy d)) h in
-      let o : getD (d .outputs) y noOutput ≡ outputBy d (getD outputLines y []) =
-          ap (λ l. getD l y noOutput) outputs-are ∙ map-in (outputBy d) [] noOutput outputLines y h in
-      subst (λ (z : Output). z .owner < length (d .units)) o (g .output-owned y q)
+      subst (λ (z : Output). z .owner < length (d .units)) (output-at-place y h)
+      (g .output-owned y (rw outputs-count h))
 
   pub output-named : (v w : List ℕ) → outputNamed d (unitNamed d v) w ≡ outputNumber fs v w
   unfolding outputNamed portNumber
@@ -86,12 +97,9 @@ module _ (d : Draft) (fs : List (List (List ℕ))) (r : Runs blank 2 fs d) (g : 
 
   input-known : (x : ℕ) → x < length inputLines → unitNamed d (word (getD inputLines x []) 1) < length (d .units)
   input-known x h =
-      let l : length (map bare (d .inputs)) ≡ length (map (inputBy d) inputLines) = ap length inputs-are in
-      let q : x < length (d .inputs) = omega (arith, length-map (d .inputs) bare, length-map inputLines (inputBy d)) in
-      let o : bare (getD (d .inputs) x noInput) ≡ inputBy d (getD inputLines x []) =
-          sym (map-in bare noInput noInput (d .inputs) x q) ∙ ap (λ l. getD l x noInput) inputs-are
-          ∙ map-in (inputBy d) [] noInput inputLines x h in
-      subst (λ (z : Input). z .owner < length (d .units)) o (g .input-owned x q)
+      let q : x < length (d .inputs) = rw inputs-count h in
+      subst (λ (z : Input). z .owner < length (d .units))
+      (sym (map-in bare noInput noInput (d .inputs) x q) ∙ input-at-place x h) (g .input-owned x q)
 
   pub input-named : (v w : List ℕ) → inputNamed d (unitNamed d v) w ≡ inputNumber fs v w
   unfolding portNumber
@@ -104,3 +112,30 @@ module _ (d : Draft) (fs : List (List (List ℕ))) (r : Runs blank 2 fs d) (g : 
   pub feed-named : (f : List (List ℕ)) → feedBy d f ≡ feedNumbers fs f
   unfolding feedNumbers
   feed-named f = rw (input-named (word f 1) (word f 2), output-named (word f 1) (word f 3))
+
+  -- ---- each line has its own place as its number
+  pub unit-at : (u : ℕ) → u < length unitLines → unitNumber fs (word (getD unitLines u []) 1) ≡ u
+  unfolding blank unitNamed
+  unit-at u h =
+      let l : u < length (d .units) = rw (units-are, length-map unitLines (λ f. word f 1)) h in
+      let n : getD (d .units) u [] ≡ word (getD unitLines u []) 1 =
+          ap (λ l. getD l u []) units-are ∙ map-in (λ f. word f 1) [] [] unitLines u h in
+      sym (unit-named (word (getD unitLines u []) 1)) ∙ ap (unitNamed d) (sym n)
+      ∙ units-once r (λ i h. absurd (omega arith)) u l
+
+  pub output-at : (y : ℕ) → y < length outputLines
+      → outputNumber fs (word (getD outputLines y []) 1) (word (getD outputLines y []) 2) ≡ y
+  unfolding blank outputNamed
+  output-at y h =
+      sym (output-named (word (getD outputLines y []) 1) (word (getD outputLines y []) 2))
+      ∙ ap (λ o. place (sameOutput o) (d .outputs)) (sym (output-at-place y h))
+      ∙ outputs-once r (λ i h. absurd (omega arith)) y (rw outputs-count h)
+
+  pub input-at : (x : ℕ) → x < length inputLines
+      → inputNumber fs (word (getD inputLines x []) 1) (word (getD inputLines x []) 2) ≡ x
+  unfolding blank
+  input-at x h =
+      let f = getD inputLines x [] in
+      sym (input-named (word f 1) (word f 2)) ∙ sym (named-bare d (unitNamed d (word f 1)) (word f 2))
+      ∙ ap (λ i. place (sameInput i) (map bare (d .inputs))) (sym (input-at-place x h))
+      ∙ inputs-once r (λ i h. absurd (omega arith)) x (rw (length-map (d .inputs) bare, inputs-count) h)
