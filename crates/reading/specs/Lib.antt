@@ -8,5 +8,6 @@ pub mod Once
 pub mod Reads
 pub mod Numbers
 pub mod Named
+pub mod Sourced
 pub mod Parts
 pub mod Sound
