@@ -53,7 +53,7 @@ first-more : (w : List ℕ) (f : List (List ℕ)) (fs : List (List (List ℕ))) 
 unfolding linesOf opens
 first-more w f fs e = rw (e, is-true (same w w) (same-self w))
 
-none-more : (w : List ℕ) (f : List (List ℕ)) (fs : List (List (List ℕ))) (v : List ℕ) → word f 0 ≡ v → T (not (same v w))
+pub none-more : (w : List ℕ) (f : List (List ℕ)) (fs : List (List (List ℕ))) (v : List ℕ) → word f 0 ≡ v → T (not (same v w))
     → linesOf w (f ∷ fs) ≡ linesOf w fs
 unfolding linesOf opens
 none-more w f fs v e n = rw (e, is-false (same v w) n)

@@ -9,5 +9,6 @@ pub mod Reads
 pub mod Numbers
 pub mod Named
 pub mod Sourced
+pub mod Numbered
 pub mod Parts
 pub mod Sound

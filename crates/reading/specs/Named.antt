@@ -64,9 +64,9 @@ module _ (d : Draft) (fs : List (List (List ℕ))) (r : Runs blank 2 fs d) (g : 
   owner-alike : (a v : List ℕ) → unitNamed d a < length (d .units) → eqb (unitNamed d a) (unitNamed d v) ≡ same a v
   owner-alike a v h = same-test _ _
       (λ t.
-        let e : unitNamed d a ≡ unitNamed d v = eqb→eq _ _ t in
-        let n : a ≡ v = sym (name-of a h) ∙ ap (λ u. getD (d .units) u []) e ∙ name-of v (subst (λ u. u < length (d .units)) e h) in
-        rw n (same-self v))
+      let e : unitNamed d a ≡ unitNamed d v = eqb→eq _ _ t in
+      let n : a ≡ v = sym (name-of a h) ∙ ap (λ u. getD (d .units) u []) e ∙ name-of v (subst (λ u. u < length (d .units)) e h) in
+      rw n (same-self v))
       (λ t. eq-true (unitNamed d a) (unitNamed d v) (ap (unitNamed d) (same-true a v t)))
 
   -- ---- a port's number
@@ -93,7 +93,7 @@ module _ (d : Draft) (fs : List (List (List ℕ))) (r : Runs blank 2 fs d) (g : 
       let p : Output → Bool = λ o. eqb (o .owner) (unitNamed d v) && same (o .name) w in
       ap (place p) outputs-are ∙ place-map p (outputBy d) outputLines
       ∙ place-alike _ _ [] outputLines
-          (λ i h. ap (λ b. b && same (word (getD outputLines i []) 2) w) (owner-alike (word (getD outputLines i []) 1) v (output-known i h)))
+      (λ i h. ap (λ b. b && same (word (getD outputLines i []) 2) w) (owner-alike (word (getD outputLines i []) 1) v (output-known i h)))
 
   input-known : (x : ℕ) → x < length inputLines → unitNamed d (word (getD inputLines x []) 1) < length (d .units)
   input-known x h =
@@ -107,7 +107,7 @@ module _ (d : Draft) (fs : List (List (List ℕ))) (r : Runs blank 2 fs d) (g : 
       let p : Input → Bool = λ i. eqb (i .owner) (unitNamed d v) && same (i .name) w in
       sym (named-bare d (unitNamed d v) w) ∙ ap (place p) inputs-are ∙ place-map p (inputBy d) inputLines
       ∙ place-alike _ _ [] inputLines
-          (λ i h. ap (λ b. b && same (word (getD inputLines i []) 2) w) (owner-alike (word (getD inputLines i []) 1) v (input-known i h)))
+      (λ i h. ap (λ b. b && same (word (getD inputLines i []) 2) w) (owner-alike (word (getD inputLines i []) 1) v (input-known i h)))
 
   pub feed-named : (f : List (List ℕ)) → feedBy d f ≡ feedNumbers fs f
   unfolding feedNumbers
@@ -119,7 +119,7 @@ module _ (d : Draft) (fs : List (List (List ℕ))) (r : Runs blank 2 fs d) (g : 
   unit-at u h =
       let l : u < length (d .units) = rw (units-are, length-map unitLines (λ f. word f 1)) h in
       let n : getD (d .units) u [] ≡ word (getD unitLines u []) 1 =
-          ap (λ l. getD l u []) units-are ∙ map-in (λ f. word f 1) [] [] unitLines u h in
+      ap (λ l. getD l u []) units-are ∙ map-in (λ f. word f 1) [] [] unitLines u h in
       sym (unit-named (word (getD unitLines u []) 1)) ∙ ap (unitNamed d) (sym n)
       ∙ units-once r (λ i h. absurd (omega arith)) u l
 

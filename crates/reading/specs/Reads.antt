@@ -109,3 +109,48 @@ text-reads room t =
     go false true p false q false s =
         reads-lines _ (getD (rows t) 0 []) (drop 1 (rows t)) (eqb-true _ _ p) (first-some (rows t) s) (first-opens _ s)
         (lines-come room blank 2 (drop 1 (rows t)) blank-proper)
+
+-- ---- a text that is read
+pub record Read (t : List ℕ) (r : Reading) : Type 0 where
+  pub first : List (List ℕ)
+  pub below : List (List (List ℕ))
+  pub draft : Draft
+  pub lines : rows t ≡ first ∷ below
+  pub opened : word first 0 ≡ ascii "cosim"
+  pub run : Runs blank 2 below draft
+  pub proper : Proper draft
+  pub joined : length (draft .inputs) ≤ loose draft
+  pub result : r ≡ written draft
+
+pub text-read : (room : ℕ) (t : List ℕ) → reading room t .number ≡ 0 → Read t (reading room t)
+unfolding stopped
+text-read room t = go (reading room t) (text-reads room t)
+  where
+    closed : (first : List (List ℕ)) (fs : List (List (List ℕ))) (last : Draft) (r : Reading) → rows t ≡ first ∷ fs
+        → word first 0 ≡ ascii "cosim" → Runs blank 2 fs last → Proper last → Closes room last r → r .number ≡ 0 → Read t r
+    closed first fs last r l o c g (closes-33 z) e = absurd (omega arith)
+    closed first fs last r l o c g (closes-31 z) e = absurd (omega arith)
+    closed first fs last r l o c g closes-34 e = absurd (omega arith)
+    closed first fs last r l o c g (closes-0 s j) e = record {
+      first = first;
+      below = fs;
+      draft = last;
+      lines = l;
+      opened = o;
+      run = c;
+      proper = g;
+      joined = j;
+      result = refl;
+    }
+
+    come : (first : List (List ℕ)) (fs : List (List (List ℕ))) (r : Reading) → rows t ≡ first ∷ fs
+        → word first 0 ≡ ascii "cosim" → Comes room blank 2 fs r → r .number ≡ 0 → Read t r
+    come first fs r l o (to-line i j n e h p c q z) x = absurd (z x)
+    come first fs r l o (to-end last s c g z) x = closed first fs last s l o c g z x
+
+    go : (r : Reading) → Reads room t r → r .number ≡ 0 → Read t r
+    go r reads-20 e = absurd (omega arith)
+    go r (reads-21 n) e = absurd (omega arith)
+    go r (reads-22 l b) e = absurd (omega arith)
+    go r (reads-23 l) e = absurd (omega arith)
+    go r (reads-lines s first fs l p o c) e = come first fs s p o c e

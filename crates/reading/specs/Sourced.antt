@@ -106,7 +106,7 @@ module _ (d : Draft) (fs : List (List (List ℕ))) (r : Runs blank 2 fs d) (g : 
       joined : (x : ℕ) → x < length (d .inputs) → sourceAt d x ≡ unjoined → ⊥
       joined x h e =
           let q : getD (d .inputs) x noInput .source ≡ unjoined =
-              sym (map-in (λ (i : Input). i .source) noInput unjoined (d .inputs) x h) ∙ e in
+          sym (map-in (λ (i : Input). i .source) noInput unjoined (d .inputs) x h) ∙ e in
           clash (eqb (getD (d .inputs) x noInput .source) unjoined) (eq-true _ _ q)
           (place-is (λ i. eqb (i .source) unjoined) noInput (d .inputs) .below x (omega arith))
 

@@ -1,0 +1,134 @@
+-- A text that is read: its table is that of its lines, numbered in line order.
+use Prim.Native.Nat.{ℕ, suc, _+_, _*_, _<_, _≤_}
+use mathlib.Core.Path.{_≡_, refl, ap, sym, _∙_, fun-ext}
+use mathlib.Core.Bool.{Bool, true, false, not, cond}
+use mathlib.Core.List.{List, [], _∷_, _++_, map, map-map}
+use native.Mathlib.Omega.{arith}
+use lib.ListN.{length, getD, length-map}
+use lib.Dec.{T, eqb}
+use Rattle.grammar.specs.Quoted.{ascii}
+use Rattle.grammar.specs.Words.{same}
+use Rattle.grammar.specs.Rows.{rows, word}
+use Rattle.grammar.specs.Opening.{linesOf}
+use Rattle.grammar.specs.Draft.{Draft, Output, Input, blank, loose}
+use Rattle.grammar.specs.Lines.{kindOf}
+use Rattle.grammar.specs.Reading.{Reading, reading, stopped, written, packed, pairs as feedPairs}
+use Rattle.table.specs.Packed.{units, outputs, inputs, feeds, outputOwners, inputOwners, kinds, sources, pairs}
+use Rattle.reading.specs.Proper.{Proper}
+use Rattle.reading.specs.Takes.{Runs}
+use Rattle.reading.specs.Declared.{bare, outputBy, inputBy, feedBy}
+use Rattle.reading.specs.Joined.{none-more}
+use Rattle.reading.specs.Reads.{Read, text-read}
+use Rattle.reading.specs.Numbers.{unitNumber, portNumber, outputNumber, inputNumber, joinOf, sourceNumber, feedNumbers, numbered}
+use Rattle.reading.specs.Named.{units-are, outputs-are, inputs-are, feeds-are, outputs-count, inputs-count, unit-named, feed-named, unit-at, output-at, input-at}
+use Rattle.reading.specs.Sourced.{sources-are}
+
+module _ (d : Draft) (fs : List (List (List ℕ))) (r : Runs blank 2 fs d) (g : Proper d) (all : length (d .inputs) ≤ loose d) where
+  of-outputs : map (λ (o : Output). o .owner) (d .outputs) ≡ map (λ f. unitNumber fs (word f 1)) (linesOf (ascii "out") fs)
+  of-outputs =
+      ap (map (λ (o : Output). o .owner)) (outputs-are d fs r g) ∙ map-map (λ (o : Output). o .owner) (outputBy d) (linesOf (ascii "out") fs)
+      ∙ ap (λ h. map h (linesOf (ascii "out") fs)) (fun-ext (λ f. unit-named d fs r g (word f 1)))
+
+  of-inputs : {A : Type 0} (h : Input → A) → ((i : Input) → h i ≡ h (bare i))
+      → map h (d .inputs) ≡ map (λ f. h (inputBy d f)) (linesOf (ascii "in") fs)
+  of-inputs h e =
+      ap (λ k. map k (d .inputs)) (fun-ext e) ∙ sym (map-map h bare (d .inputs)) ∙ ap (map h) (inputs-are d fs r g)
+      ∙ map-map h (inputBy d) (linesOf (ascii "in") fs)
+
+  of-owners : map (λ (i : Input). i .owner) (d .inputs) ≡ map (λ f. unitNumber fs (word f 1)) (linesOf (ascii "in") fs)
+  of-owners =
+      of-inputs (λ i. i .owner) (λ i. refl)
+      ∙ ap (λ h. map h (linesOf (ascii "in") fs)) (fun-ext (λ f. unit-named d fs r g (word f 1)))
+
+  of-feeds : d .feeds ≡ map (feedNumbers fs) (linesOf (ascii "feed") fs)
+  of-feeds = feeds-are d fs r g ∙ ap (λ h. map h (linesOf (ascii "feed") fs)) (fun-ext (feed-named d fs r g))
+
+  packed-numbered : packed d ≡ numbered fs
+  unfolding packed numbered
+  packed-numbered = rw (
+    of-outputs,
+    of-owners,
+    of-inputs (λ i. i .kind) (λ i. refl),
+    sources-are d fs r g all,
+    units-are d fs r g,
+    length-map (linesOf (ascii "unit") fs) (λ f. word f 1),
+    outputs-count d fs r g,
+    inputs-count d fs r g,
+    of-feeds,
+    length-map (linesOf (ascii "feed") fs) (feedNumbers fs),
+  )
+
+-- the first line declares nothing
+module _ (first : List (List ℕ)) (fs : List (List (List ℕ))) (opened : word first 0 ≡ ascii "cosim") where
+  below : (w : List ℕ) → T (not (same (ascii "cosim") w)) → linesOf w (first ∷ fs) ≡ linesOf w fs
+  below w n = none-more w first fs (ascii "cosim") opened n
+
+  unit-below : unitNumber (first ∷ fs) ≡ unitNumber fs
+  unfolding unitNumber same
+  unit-below = fun-ext (λ n. rw (below (ascii "unit") tt))
+
+  output-below : outputNumber (first ∷ fs) ≡ outputNumber fs
+  unfolding portNumber same
+  output-below = fun-ext (λ u. fun-ext (λ n. rw (below (ascii "out") tt)))
+
+  input-below : inputNumber (first ∷ fs) ≡ inputNumber fs
+  unfolding portNumber same
+  input-below = fun-ext (λ u. fun-ext (λ n. rw (below (ascii "in") tt)))
+
+  join-below : joinOf (first ∷ fs) ≡ joinOf fs
+  unfolding joinOf same
+  join-below = fun-ext (λ u. fun-ext (λ n. rw (below (ascii "join") tt)))
+
+  source-below : sourceNumber (first ∷ fs) ≡ sourceNumber fs
+  unfolding sourceNumber
+  source-below = fun-ext (λ u. fun-ext (λ n. rw (join-below, output-below)))
+
+  feed-below : feedNumbers (first ∷ fs) ≡ feedNumbers fs
+  unfolding feedNumbers
+  feed-below = fun-ext (λ f. rw (input-below, output-below))
+
+  numbered-below : numbered (first ∷ fs) ≡ numbered fs
+  unfolding numbered same
+  numbered-below = rw (
+    unit-below,
+    source-below,
+    feed-below,
+    below (ascii "unit") tt,
+    below (ascii "out") tt,
+    below (ascii "in") tt,
+    below (ascii "feed") tt,
+  )
+
+-- ---- the theorems
+module _ (room : ℕ) (t : List ℕ) (success : reading room t .number ≡ 0) where
+  abbrev read : Read t (reading room t)
+  read = text-read room t success
+
+  -- the bytes are those of the lines, numbered in line order
+  pub read-numbered : reading room t .bytes ≡ numbered (rows t)
+  unfolding written
+  read-numbered =
+      ap (λ (r : Reading). r .bytes) (read .result)
+      ∙ packed-numbered (read .draft) (read .below) (read .run) (read .proper) (read .joined)
+      ∙ sym (numbered-below (read .first) (read .below) (read .opened))
+      ∙ ap numbered (sym (read .lines))
+
+  -- each `unit` line declares the unit whose number is its place among them: no name stands twice
+  pub unit-numbered : (u : ℕ) → u < length (linesOf (ascii "unit") (rows t))
+      → unitNumber (rows t) (word (getD (linesOf (ascii "unit") (rows t)) u []) 1) ≡ u
+  unfolding same
+  unit-numbered = rw (read .lines, unit-below (read .first) (read .below) (read .opened), below (read .first) (read .below) (read .opened) (ascii "unit") tt)
+      (unit-at (read .draft) (read .below) (read .run) (read .proper))
+
+  -- so with the `out` lines and the outputs of a unit, and the `in` lines and the inputs of a unit
+  pub output-numbered : (y : ℕ) → y < length (linesOf (ascii "out") (rows t))
+      → outputNumber (rows t) (word (getD (linesOf (ascii "out") (rows t)) y []) 1) (word (getD (linesOf (ascii "out") (rows t)) y []) 2) ≡ y
+  unfolding same
+  output-numbered = rw (read .lines, output-below (read .first) (read .below) (read .opened), below (read .first) (read .below) (read .opened) (ascii "out") tt)
+      (output-at (read .draft) (read .below) (read .run) (read .proper))
+
+  pub input-numbered : (x : ℕ) → x < length (linesOf (ascii "in") (rows t))
+      → inputNumber (rows t) (word (getD (linesOf (ascii "in") (rows t)) x []) 1) (word (getD (linesOf (ascii "in") (rows t)) x []) 2) ≡ x
+  unfolding same
+  input-numbered = rw (read .lines, input-below (read .first) (read .below) (read .opened), below (read .first) (read .below) (read .opened) (ascii "in") tt)
+      (input-at (read .draft) (read .below) (read .run) (read .proper))
