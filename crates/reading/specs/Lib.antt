@@ -10,5 +10,6 @@ pub mod Numbers
 pub mod Named
 pub mod Sourced
 pub mod Numbered
+pub mod InOrder
 pub mod Parts
 pub mod Sound
