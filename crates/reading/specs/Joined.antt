@@ -49,7 +49,7 @@ map-set f (x ∷ xs) zero a = refl
 map-set f (x ∷ xs) (suc i) a = ap (λ r. f x ∷ r) (map-set f xs i a)
 
 -- ---- the lines that open with w, with one line more
-first-more : (w : List ℕ) (f : List (List ℕ)) (fs : List (List (List ℕ))) → word f 0 ≡ w → linesOf w (f ∷ fs) ≡ f ∷ linesOf w fs
+pub first-more : (w : List ℕ) (f : List (List ℕ)) (fs : List (List (List ℕ))) → word f 0 ≡ w → linesOf w (f ∷ fs) ≡ f ∷ linesOf w fs
 unfolding linesOf opens
 first-more w f fs e = rw (e, is-true (same w w) (same-self w))
 
@@ -86,10 +86,14 @@ or-other : (s : ℕ) (d : Draft) (x : ℕ) (f : List (List ℕ)) (fs : List (Lis
 unfolding orBy sourceBy
 or-other s d x f fs e n = rw (first-more (ascii "join") f fs e, ne-eqb (joinInput d f) x n)
 
--- a line that joins input a to output y, which was not joined before it
-module _ (d last : Draft) (a y : ℕ) (f : List (List ℕ)) (fs : List (List (List ℕ))) (opened : word f 0 ≡ ascii "join")
-    (input : joinInput last f ≡ a) (output : joinOutput last f ≡ y) (known : a < length (d .inputs))
-    (free : sourceOf d a ≡ unjoined) (low : y < unjoined) where
+-- ---- the sources after an input more, and after a join
+pub source-more : (d : Draft) (i : Input) → i .source ≡ unjoined → (x : ℕ) → sourceAt (addInput d i) x ≡ sourceAt d x
+unfolding addInput
+source-more d i e x =
+    ap (λ l. getD l x 255) (map-append (λ (i : Input). i .source) (d .inputs) (i ∷ []))
+    ∙ rw e (more-default (map (λ (i : Input). i .source) (d .inputs)) 255 x)
+
+module _ (d : Draft) (a y : ℕ) where
   abbrev were : List ℕ
   were = map (λ (i : Input). i .source) (d .inputs)
 
@@ -97,37 +101,53 @@ module _ (d last : Draft) (a y : ℕ) (f : List (List ℕ)) (fs : List (List (Li
   unfolding addJoin joined
   join-source x = ap (λ l. getD l x 255) (map-set (λ (i : Input). i .source) (d .inputs) a _)
 
-  was-free : sourceAt d a ≡ unjoined
-  unfolding sourceOf
-  was-free = map-in (λ (i : Input). i .source) noInput 255 (d .inputs) a known ∙ free
+  pub source-joined : a < length (d .inputs) → sourceAt (addJoin d a y) a ≡ y
+  source-joined h = join-source a ∙ getD-set-same were a y 255 (rw (length-map (d .inputs) (λ (i : Input). i .source)) h)
 
-  or-join : (x : ℕ) → orBy (sourceAt (addJoin d a y) x) last x fs ≡ orBy (sourceAt d x) last x (f ∷ fs)
-  or-join x = elim (ℕ-discrete x a) [
-    | yes e ↦ rw e (ap (λ s. orBy s last a fs) (join-source a ∙ getD-set-same were a y 255 (rw (length-map (d .inputs) (λ (i : Input). i .source)) known))
-        ∙ or-joins last a y f fs opened input output (λ z. omega arith)
-        ∙ ap (λ s. orBy s last a (f ∷ fs)) (sym was-free))
-    | no e ↦ ap (λ s. orBy s last x fs) (join-source x ∙ getD-set-other were a x y 255 e)
-        ∙ or-other (sourceAt d x) last x f fs opened (λ z. e (sym z ∙ input))
+  pub source-other : (x : ℕ) → (x ≡ a → ⊥) → sourceAt (addJoin d a y) x ≡ sourceAt d x
+  source-other x n = join-source x ∙ getD-set-other were a x y 255 n
+
+  pub source-free : a < length (d .inputs) → sourceOf d a ≡ unjoined → sourceAt d a ≡ unjoined
+  unfolding sourceOf
+  source-free h e = map-in (λ (i : Input). i .source) noInput 255 (d .inputs) a h ∙ e
+
+  -- a line that joins input a, which was not joined, to output y
+  or-join : (last : Draft) (f : List (List ℕ)) (fs : List (List (List ℕ))) → word f 0 ≡ ascii "join" → joinInput last f ≡ a
+      → joinOutput last f ≡ y → a < length (d .inputs) → sourceOf d a ≡ unjoined → y < unjoined
+      → (x : ℕ) → orBy (sourceAt (addJoin d a y) x) last x fs ≡ orBy (sourceAt d x) last x (f ∷ fs)
+  or-join last f fs w p q h e l x = elim (ℕ-discrete x a) [
+    | yes z ↦ rw z (ap (λ s. orBy s last a fs) (source-joined h) ∙ or-joins last a y f fs w p q (λ z. omega arith)
+        ∙ ap (λ s. orBy s last a (f ∷ fs)) (sym (source-free h e)))
+    | no z ↦ ap (λ s. orBy s last x fs) (source-other x z) ∙ or-other (sourceAt d x) last x f fs w (λ i. z (sym i ∙ p))
   ]
 
-pub outputs-more : {d last : Draft} {k : ℕ} {fs : List (List (List ℕ))} → Runs d k fs last → length (d .outputs) ≤ length (last .outputs)
+-- ---- a join line's input and output keep their numbers
+module _ {d last : Draft} {k : ℕ} {fs : List (List (List ℕ))} (r : Runs d k fs last) (f : List (List ℕ)) where
+  pub join-input-stays : unitNamed d (word f 3) < length (d .units) → joinInput d f < length (d .inputs)
+      → joinInput last f ≡ joinInput d f
+  join-input-stays u x =
+      ap (λ u. inputNamed last u (word f 4)) (sym (unit-stays r (word f 3) u)) ∙ sym (input-stays r _ (word f 4) x)
+
+  join-output-stays : unitNamed d (word f 1) < length (d .units) → joinOutput d f < length (d .outputs)
+      → joinOutput last f ≡ joinOutput d f
+  join-output-stays u y =
+      ap (λ u. outputNamed last u (word f 2)) (sym (unit-stays r (word f 1) u)) ∙ sym (output-stays r _ (word f 2) y)
+
+pub outputs-more : {d last : Draft} {k : ℕ} {fs : List (List (List ℕ))} → Runs d k fs last
+    → length (d .outputs) ≤ length (last .outputs)
 unfolding onward
-outputs-more {d} r = rw (outputs-run r, length-append) (omega arith)
+outputs-more r = rw (outputs-run r, length-append) (omega arith)
 
 pub sources-run : {d last : Draft} {k : ℕ} {fs : List (List (List ℕ))} → Runs d k fs last
     → length (last .outputs) ≤ 255 → (x : ℕ) → sourceAt last x ≡ orBy (sourceAt d x) last x fs
-unfolding same addUnit addOutput addInput addFeed
+unfolding same addUnit addOutput addFeed
 sources-run ends m x = or-first _ _ _
 sources-run (goes-on (takes-unit w n) r) m x = sources-run r m x ∙ or-none _ _ _ _ _ _ w tt
 sources-run (goes-on (takes-output w u n) r) m x = sources-run r m x ∙ or-none _ _ _ _ _ _ w tt
 sources-run {d} (goes-on {last = last} {fs = fs} (takes-input w u n) r) m x =
-    let l = map (λ (i : Input). i .source) (d .inputs) in
-    sources-run r m x
-    ∙ ap (λ s. orBy s last x fs) (ap (λ l. getD l x 255) (map-append (λ (i : Input). i .source) (d .inputs) _) ∙ more-default l 255 x)
-    ∙ or-none _ _ _ _ _ _ w tt
+    sources-run r m x ∙ ap (λ s. orBy s last x fs) (source-more d _ refl x) ∙ or-none _ _ _ _ _ _ w tt
 sources-run (goes-on (takes-feed w u y z) r) m x = sources-run r m x ∙ or-none _ _ _ _ _ _ w tt
 sources-run {d} (goes-on {last = last} {f = f} {fs = fs} (takes-join w u y v z s) r) m x =
     let t = goes-on (takes-join w u y v z s) r in
-    let p = ap (λ u. inputNamed last u (word f 4)) (sym (unit-stays t (word f 3) v)) ∙ sym (input-stays t _ (word f 4) z) in
-    let q = ap (λ u. outputNamed last u (word f 2)) (sym (unit-stays t (word f 1) u)) ∙ sym (output-stays t _ (word f 2) y) in
-    sources-run r m x ∙ or-join d last _ _ f fs w p q z s (omega (arith, outputs-more t)) x
+    sources-run r m x
+    ∙ or-join d _ _ last f fs w (join-input-stays t f v z) (join-output-stays t f u y) z s (omega (arith, outputs-more t)) x

@@ -4,6 +4,7 @@ pub mod Takes
 pub mod Found
 pub mod Declared
 pub mod Joined
+pub mod JoinedOnce
 pub mod Once
 pub mod Reads
 pub mod Numbers

@@ -21,7 +21,7 @@ use Rattle.reading.specs.Joined.{none-more}
 use Rattle.reading.specs.Reads.{Read, text-read}
 use Rattle.reading.specs.Numbers.{unitNumber, portNumber, outputNumber, inputNumber, joinOf, sourceNumber, feedNumbers, numbered}
 use Rattle.reading.specs.Named.{units-are, outputs-are, inputs-are, feeds-are, outputs-count, inputs-count, unit-named, feed-named, unit-at, output-at, input-at}
-use Rattle.reading.specs.Sourced.{sources-are}
+use Rattle.reading.specs.Sourced.{sources-are, join-at}
 
 module _ (d : Draft) (fs : List (List (List ℕ))) (r : Runs blank 2 fs d) (g : Proper d) (all : length (d .inputs) ≤ loose d) where
   of-outputs : map (λ (o : Output). o .owner) (d .outputs) ≡ map (λ f. unitNumber fs (word f 1)) (linesOf (ascii "out") fs)
@@ -132,3 +132,13 @@ module _ (room : ℕ) (t : List ℕ) (success : reading room t .number ≡ 0) wh
   unfolding same
   input-numbered = rw (read .lines, input-below (read .first) (read .below) (read .opened), below (read .first) (read .below) (read .opened) (ascii "in") tt)
       (input-at (read .draft) (read .below) (read .run) (read .proper))
+
+  -- each `join` line gives the input that it names the output that it names: no input is joined twice
+  pub join-numbered : (j : ℕ) → j < length (linesOf (ascii "join") (rows t)) → let f = getD (linesOf (ascii "join") (rows t)) j [] in
+      sourceNumber (rows t) (word f 3) (word f 4) ≡ outputNumber (rows t) (word f 1) (word f 2)
+  unfolding sourceNumber same
+  join-numbered j = rw (
+    read .lines,
+    join-below (read .first) (read .below) (read .opened),
+    below (read .first) (read .below) (read .opened) (ascii "join") tt,
+  ) (λ h. rw (join-at (read .draft) (read .below) (read .run) (read .proper) j h))

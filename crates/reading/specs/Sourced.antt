@@ -4,6 +4,7 @@ use mathlib.Core.Path.{_≡_, refl, ap, sym, _∙_, subst}
 use mathlib.Core.Bool.{Bool, true, false, not, cond, _&&_}
 use mathlib.Core.List.{List, [], _∷_, map}
 use native.Mathlib.Omega.{arith}
+use native.Mathlib.Decide.{decLt}
 use lib.ListN.{length, getD, length-map}
 use lib.Seq.{ext-getD}
 use lib.Dec.{T, eqb, ltb, eqb→eq}
@@ -14,12 +15,13 @@ use Rattle.grammar.specs.Same.{same-true, same-self}
 use Rattle.grammar.specs.Rows.{word, place}
 use Rattle.grammar.specs.Places.{place-is}
 use Rattle.grammar.specs.Opening.{linesOf}
-use Rattle.grammar.specs.Draft.{Draft, Input, blank, unjoined, noInput, loose}
+use Rattle.grammar.specs.Draft.{Draft, Input, blank, unjoined, noInput, unitNamed, inputNamed, loose}
 use Rattle.reading.specs.Proper.{Proper}
 use Rattle.reading.specs.Parts.{map-in}
 use Rattle.reading.specs.Takes.{Runs}
 use Rattle.reading.specs.Found.{place-alike}
 use Rattle.reading.specs.Joined.{joinInput, joinOutput, sourceBy, sourceAt, orBy, sources-run}
+use Rattle.reading.specs.JoinedOnce.{Apart, joins-apart}
 use Rattle.reading.specs.Numbers.{portNumber, outputNumber, inputNumber, joinOf, sourceNumber}
 use Rattle.reading.specs.Named.{inputs-count, output-named, input-named, input-at}
 
@@ -116,3 +118,28 @@ module _ (d : Draft) (fs : List (List (List ℕ))) (r : Runs blank 2 fs d) (g : 
           let l : x < length (d .inputs) = rw (← length-map (d .inputs) (λ (i : Input). i .source)) h in
           let k : x < length inputLines = rw (← inputs-count d fs r g) l in
           source-is x k (joined x l) ∙ sym (map-in (λ f. sourceNumber fs (word f 1) (word f 2)) [] unjoined inputLines x k)
+
+  -- each line that joins is the one that joins its input
+  pub join-at : (j : ℕ) → j < length joinLines
+      → joinOf fs (word (getD joinLines j []) 3) (word (getD joinLines j []) 4) ≡ getD joinLines j []
+  unfolding joinOf Apart
+  join-at j h = ap (λ k. getD joinLines k []) found
+    where
+      f : List (List ℕ)
+      f = getD joinLines j []
+
+      test : List (List ℕ) → Bool
+      test i = same (word i 3) (word f 3) && same (word i 4) (word f 4)
+
+      found : place test joinLines ≡ j
+      found = elim (decLt (place test joinLines) j) [
+        | yes l ↦
+            let (a, b) = both-true _ _ _ _ (place-is test [] joinLines .passes (omega arith)) in
+            absurd (joins-apart r (omega (arith, g .outputs-most)) (place test joinLines) j l h
+            (ap (λ v. inputNamed d (unitNamed d v) (word (getD joinLines (place test joinLines) []) 4)) a
+            ∙ ap (inputNamed d (unitNamed d (word f 3))) b))
+        | no l ↦ elim (decLt j (place test joinLines)) [
+          | yes k ↦ absurd (clash (test f) (both-same (word f 3) (word f 3) (word f 4) (word f 4) refl refl) (place-is test [] joinLines .below j k))
+          | no k ↦ omega arith
+        ]
+      ]
