@@ -46,12 +46,19 @@ unfolding place
 place-map p f [] = refl
 place-map p f (x ∷ xs) = ap (λ n. cond (p (f x)) 0 (suc n)) (place-map p f xs)
 
--- two tests that agree on each find the same place
+-- two tests that agree at each place find the same place
+pub place-along : {A B : Type 0} (p : A → Bool) (q : B → Bool) (a : A) (b : B) (xs : List A) (ys : List B) → length xs ≡ length ys
+    → ((i : ℕ) → i < length xs → p (getD xs i a) ≡ q (getD ys i b)) → place p xs ≡ place q ys
+unfolding place
+place-along p q a b [] [] l h = refl
+place-along p q a b [] (y ∷ ys) l h = absurd (omega arith)
+place-along p q a b (x ∷ xs) [] l h = absurd (omega arith)
+place-along p q a b (x ∷ xs) (y ∷ ys) l h =
+    rw (h 0 (omega arith), place-along p q a b xs ys (omega arith) (λ i g. h (suc i) (omega arith)))
+
 pub place-alike : {A : Type 0} (p q : A → Bool) (e : A) (xs : List A)
     → ((i : ℕ) → i < length xs → p (getD xs i e) ≡ q (getD xs i e)) → place p xs ≡ place q xs
-unfolding place
-place-alike p q e [] h = refl
-place-alike p q e (x ∷ xs) h = rw (h 0 (omega arith), place-alike p q e xs (λ i g. h (suc i) (omega arith)))
+place-alike p q e xs h = place-along p q e e xs xs refl h
 
 -- ---- each is found at its own place: no other before it is alike
 module _ {A : Type 0} (alike : A → A → Bool) (e : A) where

@@ -12,5 +12,6 @@ pub mod Named
 pub mod Sourced
 pub mod Numbered
 pub mod InOrder
+pub mod Loose
 pub mod Parts
 pub mod Sound

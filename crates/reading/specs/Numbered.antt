@@ -19,7 +19,7 @@ use Rattle.reading.specs.Takes.{Runs}
 use Rattle.reading.specs.Declared.{bare, outputBy, inputBy, feedBy}
 use Rattle.reading.specs.Joined.{none-more}
 use Rattle.reading.specs.Reads.{Read, text-read}
-use Rattle.reading.specs.Numbers.{unitNumber, portNumber, outputNumber, inputNumber, joinOf, sourceNumber, feedNumbers, numbered}
+use Rattle.reading.specs.Numbers.{unitNumber, portNumber, outputNumber, inputNumber, joinPlace, joinOf, sourceNumber, feedNumbers, numbered}
 use Rattle.reading.specs.Named.{units-are, outputs-are, inputs-are, feeds-are, outputs-count, inputs-count, unit-named, feed-named, unit-at, output-at, input-at}
 use Rattle.reading.specs.Sourced.{sources-are, join-at}
 
@@ -76,7 +76,7 @@ module _ (first : List (List ℕ)) (fs : List (List (List ℕ))) (opened : word 
   input-below = fun-ext (λ u. fun-ext (λ n. rw (below (ascii "in") tt)))
 
   join-below : joinOf (first ∷ fs) ≡ joinOf fs
-  unfolding joinOf same
+  unfolding joinOf joinPlace same
   join-below = fun-ext (λ u. fun-ext (λ n. rw (below (ascii "join") tt)))
 
   source-below : sourceNumber (first ∷ fs) ≡ sourceNumber fs
@@ -114,24 +114,34 @@ module _ (room : ℕ) (t : List ℕ) (success : reading room t .number ≡ 0) wh
       ∙ ap numbered (sym (read .lines))
 
   -- each `unit` line declares the unit whose number is its place among them: no name stands twice
-  pub unit-numbered : (u : ℕ) → u < length (linesOf (ascii "unit") (rows t))
-      → unitNumber (rows t) (word (getD (linesOf (ascii "unit") (rows t)) u []) 1) ≡ u
+  pub unit-numbered : (u : ℕ) → u < length (linesOf (ascii "unit") (rows t)) → let f = getD (linesOf (ascii "unit") (rows t)) u [] in
+      unitNumber (rows t) (word f 1) ≡ u
   unfolding same
-  unit-numbered = rw (read .lines, unit-below (read .first) (read .below) (read .opened), below (read .first) (read .below) (read .opened) (ascii "unit") tt)
-      (unit-at (read .draft) (read .below) (read .run) (read .proper))
+  unit-numbered = rw (
+    read .lines,
+    unit-below (read .first) (read .below) (read .opened),
+    below (read .first) (read .below) (read .opened) (ascii "unit") tt,
+  ) (unit-at (read .draft) (read .below) (read .run) (read .proper))
 
-  -- so with the `out` lines and the outputs of a unit, and the `in` lines and the inputs of a unit
-  pub output-numbered : (y : ℕ) → y < length (linesOf (ascii "out") (rows t))
-      → outputNumber (rows t) (word (getD (linesOf (ascii "out") (rows t)) y []) 1) (word (getD (linesOf (ascii "out") (rows t)) y []) 2) ≡ y
+  -- so with the `out` lines and the outputs of a unit
+  pub output-numbered : (y : ℕ) → y < length (linesOf (ascii "out") (rows t)) → let f = getD (linesOf (ascii "out") (rows t)) y [] in
+      outputNumber (rows t) (word f 1) (word f 2) ≡ y
   unfolding same
-  output-numbered = rw (read .lines, output-below (read .first) (read .below) (read .opened), below (read .first) (read .below) (read .opened) (ascii "out") tt)
-      (output-at (read .draft) (read .below) (read .run) (read .proper))
+  output-numbered = rw (
+    read .lines,
+    output-below (read .first) (read .below) (read .opened),
+    below (read .first) (read .below) (read .opened) (ascii "out") tt,
+  ) (output-at (read .draft) (read .below) (read .run) (read .proper))
 
-  pub input-numbered : (x : ℕ) → x < length (linesOf (ascii "in") (rows t))
-      → inputNumber (rows t) (word (getD (linesOf (ascii "in") (rows t)) x []) 1) (word (getD (linesOf (ascii "in") (rows t)) x []) 2) ≡ x
+  -- and with the `in` lines and the inputs of a unit
+  pub input-numbered : (x : ℕ) → x < length (linesOf (ascii "in") (rows t)) → let f = getD (linesOf (ascii "in") (rows t)) x [] in
+      inputNumber (rows t) (word f 1) (word f 2) ≡ x
   unfolding same
-  input-numbered = rw (read .lines, input-below (read .first) (read .below) (read .opened), below (read .first) (read .below) (read .opened) (ascii "in") tt)
-      (input-at (read .draft) (read .below) (read .run) (read .proper))
+  input-numbered = rw (
+    read .lines,
+    input-below (read .first) (read .below) (read .opened),
+    below (read .first) (read .below) (read .opened) (ascii "in") tt,
+  ) (input-at (read .draft) (read .below) (read .run) (read .proper))
 
   -- each `join` line gives the input that it names the output that it names: no input is joined twice
   pub join-numbered : (j : ℕ) → j < length (linesOf (ascii "join") (rows t)) → let f = getD (linesOf (ascii "join") (rows t)) j [] in

@@ -1,12 +1,13 @@
 -- The table of a text by its lines alone: which number each declaration has, and the bytes.
 use Prim.Native.Nat.{ℕ}
-use mathlib.Core.Bool.{_&&_}
+use mathlib.Core.Bool.{Bool, _&&_}
 use mathlib.Core.List.{List, [], _∷_, _++_, map}
 use lib.ListN.{length, getD}
+use lib.Dec.{leb}
 use Rattle.grammar.specs.Quoted.{ascii}
 use Rattle.grammar.specs.Words.{same}
 use Rattle.grammar.specs.Rows.{word, place}
-use Rattle.grammar.specs.Opening.{linesOf}
+use Rattle.grammar.specs.Opening.{opens, linesOf}
 use Rattle.grammar.specs.Draft.{Feed}
 use Rattle.grammar.specs.Lines.{kindOf}
 use Rattle.grammar.specs.Reading.{pairs}
@@ -25,15 +26,20 @@ outputNumber = portNumber (ascii "out")
 abbrev pub inputNumber : List (List (List ℕ)) → List ℕ → List ℕ → ℕ
 inputNumber = portNumber (ascii "in")
 
--- the line that joins the input n of the unit u
+-- the place of the line that joins the input n of the unit u among the `join` lines, and that line
+unfoldable pub joinPlace : List (List (List ℕ)) → List ℕ → List ℕ → ℕ
+joinPlace fs u n = place (λ f. same (word f 3) u && same (word f 4) n) (linesOf (ascii "join") fs)
+
 unfoldable pub joinOf : List (List (List ℕ)) → List ℕ → List ℕ → List (List ℕ)
-joinOf fs u n =
-    let joins = linesOf (ascii "join") fs in
-    getD joins (place (λ f. same (word f 3) u && same (word f 4) n) joins) []
+joinOf fs u n = getD (linesOf (ascii "join") fs) (joinPlace fs u n) []
 
 -- the output that this line names
 unfoldable pub sourceNumber : List (List (List ℕ)) → List ℕ → List ℕ → ℕ
 sourceNumber fs u n = outputNumber fs (word (joinOf fs u n) 1) (word (joinOf fs u n) 2)
+
+-- f is an `in` line whose input no line joins
+unfoldable pub isLoose : List (List (List ℕ)) → List (List ℕ) → Bool
+isLoose fs f = opens (ascii "in") f && leb (length (linesOf (ascii "join") fs)) (joinPlace fs (word f 1) (word f 2))
 
 -- the pair that a `feed` line names
 unfoldable pub feedNumbers : List (List (List ℕ)) → List (List ℕ) → Feed

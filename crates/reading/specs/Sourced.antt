@@ -22,7 +22,7 @@ use Rattle.reading.specs.Takes.{Runs}
 use Rattle.reading.specs.Found.{place-alike}
 use Rattle.reading.specs.Joined.{joinInput, joinOutput, sourceBy, sourceAt, orBy, sources-run}
 use Rattle.reading.specs.JoinedOnce.{Apart, joins-apart}
-use Rattle.reading.specs.Numbers.{portNumber, outputNumber, inputNumber, joinOf, sourceNumber}
+use Rattle.reading.specs.Numbers.{portNumber, outputNumber, inputNumber, joinPlace, joinOf, sourceNumber}
 use Rattle.reading.specs.Named.{inputs-count, output-named, input-named, input-at}
 
 both-true : (a b c e : List ℕ) → T (same a b && same c e) → (a ≡ b) × (c ≡ e)
@@ -88,7 +88,7 @@ module _ (d : Draft) (fs : List (List (List ℕ))) (r : Runs blank 2 fs d) (g : 
 
   pub source-is : (x : ℕ) → x < length inputLines → (sourceAt d x ≡ unjoined → ⊥)
       → sourceAt d x ≡ sourceNumber fs (word (getD inputLines x []) 1) (word (getD inputLines x []) 2)
-  unfolding sourceNumber joinOf
+  unfolding sourceNumber joinOf joinPlace
   source-is x h n =
       let i = getD inputLines x [] in
       let j = getD joinLines (place (λ f. same (word f 3) (word i 1) && same (word f 4) (word i 2)) joinLines) [] in
@@ -122,7 +122,7 @@ module _ (d : Draft) (fs : List (List (List ℕ))) (r : Runs blank 2 fs d) (g : 
   -- each line that joins is the one that joins its input
   pub join-at : (j : ℕ) → j < length joinLines
       → joinOf fs (word (getD joinLines j []) 3) (word (getD joinLines j []) 4) ≡ getD joinLines j []
-  unfolding joinOf Apart
+  unfolding joinOf joinPlace Apart
   join-at j h = ap (λ k. getD joinLines k []) found
     where
       f : List (List ℕ)
