@@ -10,6 +10,7 @@ pub mod Reads
 pub mod Numbers
 pub mod Named
 pub mod Sourced
+pub mod First
 pub mod Numbered
 pub mod InOrder
 pub mod Loose

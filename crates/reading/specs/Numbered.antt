@@ -17,9 +17,9 @@ use Rattle.table.specs.Packed.{units, outputs, inputs, feeds, outputOwners, inp
 use Rattle.reading.specs.Proper.{Proper}
 use Rattle.reading.specs.Takes.{Runs}
 use Rattle.reading.specs.Declared.{bare, outputBy, inputBy, feedBy}
-use Rattle.reading.specs.Joined.{none-more}
 use Rattle.reading.specs.Reads.{Read, text-read}
 use Rattle.reading.specs.Numbers.{unitNumber, portNumber, outputNumber, inputNumber, joinPlace, joinOf, sourceNumber, feedNumbers, numbered}
+use Rattle.reading.specs.First.{below, unit-below, output-below, input-below, join-below, numbered-below}
 use Rattle.reading.specs.Named.{units-are, outputs-are, inputs-are, feeds-are, outputs-count, inputs-count, unit-named, feed-named, unit-at, output-at, input-at}
 use Rattle.reading.specs.Sourced.{sources-are, join-at}
 
@@ -56,47 +56,6 @@ module _ (d : Draft) (fs : List (List (List ℕ))) (r : Runs blank 2 fs d) (g : 
     inputs-count d fs r g,
     of-feeds,
     length-map (linesOf (ascii "feed") fs) (feedNumbers fs),
-  )
-
--- the first line declares nothing
-module _ (first : List (List ℕ)) (fs : List (List (List ℕ))) (opened : word first 0 ≡ ascii "cosim") where
-  below : (w : List ℕ) → T (not (same (ascii "cosim") w)) → linesOf w (first ∷ fs) ≡ linesOf w fs
-  below w n = none-more w first fs (ascii "cosim") opened n
-
-  unit-below : unitNumber (first ∷ fs) ≡ unitNumber fs
-  unfolding unitNumber same
-  unit-below = fun-ext (λ n. rw (below (ascii "unit") tt))
-
-  output-below : outputNumber (first ∷ fs) ≡ outputNumber fs
-  unfolding portNumber same
-  output-below = fun-ext (λ u. fun-ext (λ n. rw (below (ascii "out") tt)))
-
-  input-below : inputNumber (first ∷ fs) ≡ inputNumber fs
-  unfolding portNumber same
-  input-below = fun-ext (λ u. fun-ext (λ n. rw (below (ascii "in") tt)))
-
-  join-below : joinOf (first ∷ fs) ≡ joinOf fs
-  unfolding joinOf joinPlace same
-  join-below = fun-ext (λ u. fun-ext (λ n. rw (below (ascii "join") tt)))
-
-  source-below : sourceNumber (first ∷ fs) ≡ sourceNumber fs
-  unfolding sourceNumber
-  source-below = fun-ext (λ u. fun-ext (λ n. rw (join-below, output-below)))
-
-  feed-below : feedNumbers (first ∷ fs) ≡ feedNumbers fs
-  unfolding feedNumbers
-  feed-below = fun-ext (λ f. rw (input-below, output-below))
-
-  numbered-below : numbered (first ∷ fs) ≡ numbered fs
-  unfolding numbered same
-  numbered-below = rw (
-    unit-below,
-    source-below,
-    feed-below,
-    below (ascii "unit") tt,
-    below (ascii "out") tt,
-    below (ascii "in") tt,
-    below (ascii "feed") tt,
   )
 
 -- ---- the theorems
