@@ -14,5 +14,6 @@ pub mod First
 pub mod Numbered
 pub mod InOrder
 pub mod Loose
+pub mod Counted
 pub mod Parts
 pub mod Sound

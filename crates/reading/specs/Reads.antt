@@ -35,7 +35,7 @@ pub data Comes (room : ℕ) (d : Draft) (k : ℕ) (fs : List (List (List ℕ))) 
 -- the whole text
 pub data Reads (room : ℕ) (t : List ℕ) : Reading → Type 0 where
   reads-20 : Reads room t (stopped 20 0)
-  reads-21 : (getD t (length t - 1) 0 ≡ lf → ⊥) → Reads room t (stopped 21 (lineOf t (length t)))
+  reads-21 : 0 < length t → (getD t (length t - 1) 0 ≡ lf → ⊥) → Reads room t (stopped 21 (lineOf t (length t)))
   reads-22 : getD t (length t - 1) 0 ≡ lf → firstBad t < length t → Reads room t (stopped 22 (lineOf t (firstBad t)))
   reads-23 : getD t (length t - 1) 0 ≡ lf → Reads room t (stopped 23 1)
   reads-lines : (r : Reading) (first : List (List ℕ)) (fs : List (List (List ℕ))) → getD t (length t - 1) 0 ≡ lf
@@ -92,21 +92,25 @@ unfolding version
 first-some [] e = absurd (mathlib.Core.Bool.true≢false e)
 first-some (f ∷ fs) e = refl
 
+not-empty : (t : List ℕ) → (eqb (length t) 0 || ltb 24576 (length t)) ≡ false → 0 < length t
+not-empty [] e = absurd (mathlib.Core.Bool.true≢false e)
+not-empty (x ∷ xs) e = omega arith
+
 pub text-reads : (room : ℕ) (t : List ℕ) → Reads room t (reading room t)
 unfolding reading lineByLine
 text-reads room t =
-    go (eqb (length t) 0 || ltb 24576 (length t)) (eqb (getD t (length t - 1) 0) lf) refl (ltb (firstBad t) (length t)) refl
+    go (eqb (length t) 0 || ltb 24576 (length t)) refl (eqb (getD t (length t - 1) 0) lf) refl (ltb (firstBad t) (length t)) refl
     (eqb (version (getD (rows t) 0 [])) 0) refl
   where
-    go : (a b : Bool) → eqb (getD t (length t - 1) 0) lf ≡ b → (c : Bool) → ltb (firstBad t) (length t) ≡ c
+    go : (a : Bool) → (eqb (length t) 0 || ltb 24576 (length t)) ≡ a → (b : Bool) → eqb (getD t (length t - 1) 0) lf ≡ b → (c : Bool) → ltb (firstBad t) (length t) ≡ c
         → (e : Bool) → eqb (version (getD (rows t) 0 [])) 0 ≡ e
         → Reads room t (cond a (stopped 20 0) (cond (not b) (stopped 21 (lineOf t (length t)))
         (cond c (stopped 22 (lineOf t (firstBad t))) (cond e (stopped 23 1) (linesFrom room blank 2 (drop 1 (rows t)))))))
-    go true b p c q e s = reads-20
-    go false false p c q e s = reads-21 (eqb-false _ _ p)
-    go false true p true q e s = reads-22 (eqb-true _ _ p) (ltb-true _ _ q)
-    go false true p false q true s = reads-23 (eqb-true _ _ p)
-    go false true p false q false s =
+    go true z b p c q e s = reads-20
+    go false z false p c q e s = reads-21 (not-empty t z) (eqb-false _ _ p)
+    go false z true p true q e s = reads-22 (eqb-true _ _ p) (ltb-true _ _ q)
+    go false z true p false q true s = reads-23 (eqb-true _ _ p)
+    go false z true p false q false s =
         reads-lines _ (getD (rows t) 0 []) (drop 1 (rows t)) (eqb-true _ _ p) (first-some (rows t) s) (first-opens _ s)
         (lines-come room blank 2 (drop 1 (rows t)) blank-proper)
 
@@ -150,7 +154,7 @@ text-read room t = go (reading room t) (text-reads room t)
 
     go : (r : Reading) → Reads room t r → r .number ≡ 0 → Read t r
     go r reads-20 e = absurd (omega arith)
-    go r (reads-21 n) e = absurd (omega arith)
+    go r (reads-21 s n) e = absurd (omega arith)
     go r (reads-22 l b) e = absurd (omega arith)
     go r (reads-23 l) e = absurd (omega arith)
     go r (reads-lines s first fs l p o c) e = come first fs s p o c e
