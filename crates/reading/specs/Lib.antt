@@ -15,5 +15,7 @@ pub mod Numbered
 pub mod InOrder
 pub mod Loose
 pub mod Counted
+pub mod Refused
+pub mod Lined
 pub mod Parts
 pub mod Sound

@@ -1,0 +1,87 @@
+-- The numbers by which a line below the first is refused.
+use Prim.Native.Nat.{ℕ, _≤_}
+use mathlib.Core.Path.{_≡_, refl}
+use mathlib.Core.Bool.{Bool, true, false, cond}
+use mathlib.Core.List.{List}
+use native.Mathlib.Omega.{arith}
+use Rattle.grammar.specs.Words.{same}
+use Rattle.grammar.specs.Rows.{word}
+use Rattle.grammar.specs.Draft.{Draft}
+use Rattle.grammar.specs.Lines.{Outcome, refuse, refused, taken, unitLine, outLine, inLine, feedLine, joinLine, line}
+
+-- 24 to 30 or 32, where it is refused
+abbrev pub LineNumber : ℕ → Type 0
+LineNumber n = (n ≡ 0 → ⊥) → (24 ≤ n) × (n ≤ 32) × (n ≡ 31 → ⊥)
+
+module _ (d : Draft) (k : ℕ) (f : List (List ℕ)) where
+  or-number : (b : Bool) (n : ℕ) (o : Outcome) → LineNumber n → (b ≡ false → LineNumber (o .number)) → LineNumber (refuse b n d o .number)
+  unfolding refuse refused
+  or-number true n o p h = p
+  or-number false n o p h = h refl
+
+  unit-number : LineNumber (unitLine d f .number)
+  unfolding unitLine taken
+  unit-number =
+      or-number _ 24 _ (omega arith) λ e.
+      or-number _ 25 _ (omega arith) λ e.
+      or-number _ 26 _ (omega arith) λ e.
+      or-number _ 29 _ (omega arith) λ e.
+      omega arith
+
+  output-number : LineNumber (outLine d f .number)
+  unfolding outLine taken
+  output-number =
+      or-number _ 24 _ (omega arith) λ e.
+      or-number _ 25 _ (omega arith) λ e.
+      or-number _ 27 _ (omega arith) λ e.
+      or-number _ 26 _ (omega arith) λ e.
+      or-number _ 29 _ (omega arith) λ e.
+      omega arith
+
+  input-number : LineNumber (inLine d k f .number)
+  unfolding inLine taken
+  input-number =
+      or-number _ 24 _ (omega arith) λ e.
+      or-number _ 25 _ (omega arith) λ e.
+      or-number _ 28 _ (omega arith) λ e.
+      or-number _ 27 _ (omega arith) λ e.
+      or-number _ 26 _ (omega arith) λ e.
+      or-number _ 29 _ (omega arith) λ e.
+      omega arith
+
+  feed-number : LineNumber (feedLine d f .number)
+  unfolding feedLine taken
+  feed-number =
+      or-number _ 24 _ (omega arith) λ e.
+      or-number _ 25 _ (omega arith) λ e.
+      or-number _ 27 _ (omega arith) λ e.
+      or-number _ 27 _ (omega arith) λ e.
+      or-number _ 27 _ (omega arith) λ e.
+      or-number _ 32 _ (omega arith) λ e.
+      or-number _ 29 _ (omega arith) λ e.
+      omega arith
+
+  join-number : LineNumber (joinLine d f .number)
+  unfolding joinLine taken
+  join-number =
+      or-number _ 24 _ (omega arith) λ e.
+      or-number _ 25 _ (omega arith) λ e.
+      or-number _ 27 _ (omega arith) λ e.
+      or-number _ 27 _ (omega arith) λ e.
+      or-number _ 27 _ (omega arith) λ e.
+      or-number _ 27 _ (omega arith) λ e.
+      or-number _ 30 _ (omega arith) λ e.
+      omega arith
+
+  pub line-number : LineNumber (line d k f .number)
+  unfolding line refused
+  line-number = go (same (word f 0) _) (same (word f 0) _) (same (word f 0) _) (same (word f 0) _) (same (word f 0) _)
+    where
+      go : (a b c e h : Bool)
+          → LineNumber (cond a (unitLine d f) (cond b (outLine d f) (cond c (inLine d k f) (cond e (feedLine d f) (cond h (joinLine d f) (record { number = 24; draft = d }))))) .number)
+      go true b c e h = unit-number
+      go false true c e h = output-number
+      go false false true e h = input-number
+      go false false false true h = feed-number
+      go false false false false true = join-number
+      go false false false false false = omega arith
