@@ -2,14 +2,15 @@
 use Prim.Native.Nat.{ℕ, suc, _+_, _-_, _<_, _≤_}
 use mathlib.Core.Path.{_≡_, refl, ap, sym, _∙_, subst}
 use mathlib.Core.Logic.{_⊎_, inl, inr, _↔_}
+use mathlib.Core.Bool.{not}
 use mathlib.Core.List.{List, [], _∷_}
 use native.Mathlib.Omega.{arith}
-use lib.ListN.{length, getD, take, drop}
+use lib.ListN.{length, getD, drop}
+use lib.Dec.{eqb}
 use Rattle.grammar.specs.Words.{lf}
 use Rattle.grammar.specs.Quoted.{ascii}
 use Rattle.grammar.specs.Rows.{rows, word, place, lineOf, firstBad}
 use Rattle.grammar.specs.Draft.{Draft, blank}
-use Rattle.grammar.specs.Lines.{line}
 use Rattle.grammar.specs.Reading.{Reading, reading, stopped, written}
 use Rattle.reading.specs.Proper.{Proper}
 use Rattle.reading.specs.Takes.{Runs}
@@ -18,13 +19,7 @@ use Rattle.reading.specs.Numbers.{isLoose}
 use Rattle.reading.specs.First.{loose-below}
 use Rattle.reading.specs.Loose.{loose-line}
 use Rattle.reading.specs.Counted.{lineCount, line-within, count-some, count-rows, last-line}
-use Rattle.reading.specs.Refused.{LineNumber, line-number}
-
--- line k is the first that is refused, by the number n: the lines above it are taken
-pub record FirstRefused (t : List ℕ) (n k : ℕ) : Type 0 where
-  pub draft : Draft
-  pub above : Runs blank 2 (take (k - 2) (drop 1 (rows t))) draft
-  pub here : line draft k (getD (rows t) (k - 1) []) .number ≡ n
+use Rattle.reading.specs.Refused.{refusals, LineNumber, refusals-numbers}
 
 pub record Lined (t : List ℕ) (r : Reading) : Type 0 where
   -- the line is 0 for 20 and 34 alone
@@ -39,8 +34,10 @@ pub record Lined (t : List ℕ) (r : Reading) : Type 0 where
   pub first : (r .number ≡ 23) ⊎ (r .number ≡ 33) → r .place ≡ 1
   -- 31 is at the first `in` line whose input no line joins
   pub loose : r .number ≡ 31 → r .place ≡ suc (place (isLoose (rows t)) (rows t))
-  -- 24 to 30 and 32 are at the first line that is refused
-  pub refused : 24 ≤ r .number → r .number ≤ 32 → (r .number ≡ 31 → ⊥) → FirstRefused t (r .number) (r .place)
+  -- 24 to 30 and 32 are at the first line below line 1 that is refused, by its number
+  pub refused : 24 ≤ r .number → r .number ≤ 32 → (r .number ≡ 31 → ⊥)
+      → let numbers = refusals blank 2 (drop 1 (rows t)) in let i = place (λ n. not (eqb n 0)) numbers in
+      (r .place ≡ 2 + i) × (r .number ≡ getD numbers i 0)
 
 -- ---- a number that is not 20 or 34, at a line that is not 0
 some : (n k : ℕ) → (n ≡ 20 → ⊥) → (n ≡ 34 → ⊥) → 1 ≤ k → (k ≡ 0) ↔ ((n ≡ 20) ⊎ (n ≡ 34))
@@ -113,7 +110,9 @@ module _ (room : ℕ) (t : List ℕ) where
     refused = λ a b c. absurd (c refl);
   }
 
-  lined-line : (n k : ℕ) → 24 ≤ n → n ≤ 32 → (n ≡ 31 → ⊥) → 1 ≤ k → k ≤ lineCount t → FirstRefused t n k → Lined t (stopped n k)
+  lined-line : (n k : ℕ) → 24 ≤ n → n ≤ 32 → (n ≡ 31 → ⊥) → 1 ≤ k → k ≤ lineCount t
+      → let numbers = refusals blank 2 (drop 1 (rows t)) in let i = place (λ n. not (eqb n 0)) numbers in
+      (k ≡ 2 + i) × (n ≡ getD numbers i 0) → Lined t (stopped n k)
   unfolding stopped
   lined-line n k a b c s h f = record {
     none = some n k (λ z. omega arith) (λ z. omega arith) s;
@@ -143,15 +142,9 @@ module _ (room : ℕ) (t : List ℕ) where
     lined-end last r c g (closes-0 u j) n = absurd (n refl)
 
     lined-come : (r : Reading) → Comes room blank 2 fs r → (r .number ≡ 0 → ⊥) → Lined t r
-    lined-come r (to-line i j n e h p c q z) x =
-        let (a, b, k) = subst LineNumber q (line-number e j (getD fs i [])) z in
-        let u : j - 2 ≡ i = omega arith in
-        let v : j - 1 ≡ suc i = omega arith in
-        lined-line n j a b k (omega arith) (omega (arith, many)) (record {
-          draft = e;
-          above = rw (u, lines) c;
-          here = rw (v, lines) q;
-        })
+    lined-come r (to-line i j n h p a q z) x =
+        let (b, c, e) = subst LineNumber q (refusals-numbers blank 2 fs i) z in
+        lined-line n j b c e (omega arith) (omega (arith, many)) (rw (lines, a) (p, sym q))
     lined-come r (to-end last s c g z) x = lined-end last s c g z x
 
   lined : (r : Reading) → Reads room t r → (r .number ≡ 0 → ⊥) → Lined t r

@@ -4,19 +4,20 @@ use mathlib.Core.Path.{_≡_, refl, ap, sym, _∙_}
 use mathlib.Core.Bool.{Bool, true, false, not, cond, _&&_, _||_}
 use mathlib.Core.List.{List, [], _∷_}
 use native.Mathlib.Omega.{arith}
-use lib.ListN.{length, getD, take, drop}
+use lib.ListN.{length, getD, drop}
 use lib.Dec.{T, eqb, ltb}
 use borrow.Author.Tests.{eqb-true, eqb-false, ltb-true, ltb-false, not-true, not-false}
 use Rattle.search.specs.Truth.{T-and, holds}
 use Rattle.grammar.specs.Quoted.{ascii}
 use Rattle.grammar.specs.Words.{lf, same}
 use Rattle.grammar.specs.Same.{same-true}
-use Rattle.grammar.specs.Rows.{rows, word, lineOf, firstBad}
+use Rattle.grammar.specs.Rows.{rows, word, place, lineOf, firstBad}
 use Rattle.grammar.specs.Draft.{Draft, noInput, blank, isInput, loose}
 use Rattle.grammar.specs.Lines.{line}
 use Rattle.grammar.specs.Reading.{Reading, reading, lineByLine, linesFrom, ending, stopped, written, packed, version}
 use Rattle.reading.specs.Proper.{Proper, blank-proper}
 use Rattle.reading.specs.Kept.{line-kept}
+use Rattle.reading.specs.Refused.{refusals}
 use Rattle.reading.specs.Takes.{Takes, line-taken, Runs, ends, goes-on}
 
 -- the end: no unit, an input that is not joined, too little room, or the table
@@ -26,10 +27,10 @@ pub data Closes (room : ℕ) (d : Draft) : Reading → Type 0 where
   closes-34 : Closes room d (stopped 34 0)
   closes-0 : 0 < length (d .units) → length (d .inputs) ≤ loose d → Closes room d (written d)
 
--- the lines from line k on: one is refused and those above it are taken, or all are taken
+-- the lines from line k on: one is the first that is refused, or all are taken
 pub data Comes (room : ℕ) (d : Draft) (k : ℕ) (fs : List (List (List ℕ))) : Reading → Type 0 where
-  to-line : (i j n : ℕ) (e : Draft) → i < length fs → j ≡ k + i → Runs d k (take i fs) e
-      → line e j (getD fs i []) .number ≡ n → (n ≡ 0 → ⊥) → Comes room d k fs (stopped n j)
+  to-line : (i j n : ℕ) → i < length fs → j ≡ k + i → place (λ n. not (eqb n 0)) (refusals d k fs) ≡ i
+      → getD (refusals d k fs) i 0 ≡ n → (n ≡ 0 → ⊥) → Comes room d k fs (stopped n j)
   to-end : (last : Draft) (r : Reading) → Runs d k fs last → Proper last → Closes room last r → Comes room d k fs r
 
 -- the whole text
@@ -57,22 +58,23 @@ ending-closes room d = go (eqb (length (d .units)) 0) refl (ltb (loose d) (lengt
         some : (n : ℕ) → (n ≡ 0 → ⊥) → 0 < n
         some n z = omega arith
 
-line-above : (room : ℕ) (d e : Draft) (k : ℕ) (f : List (List ℕ)) (fs : List (List (List ℕ))) (r : Reading)
-    → Takes d k f e → Comes room e (suc k) fs r → Comes room d k (f ∷ fs) r
-line-above room d e k f fs r t (to-line i j n a h p c q z) =
-    to-line (suc i) j n a (omega arith) (omega arith) (goes-on t c) q z
-line-above room d e k f fs r t (to-end last s c g x) = to-end last s (goes-on t c) g x
+line-above : (room : ℕ) (d : Draft) (k : ℕ) (f : List (List ℕ)) (fs : List (List (List ℕ))) (r : Reading)
+    → line d k f .number ≡ 0 → Comes room (line d k f .draft) (suc k) fs r → Comes room d k (f ∷ fs) r
+unfolding refusals place
+line-above room d k f fs r t (to-line i j n h p a q z) =
+    to-line (suc i) j n (omega arith) (omega arith) (rw (t, a)) q z
+line-above room d k f fs r t (to-end last s c g x) = to-end last s (goes-on (line-taken d k f t) c) g x
 
 pub lines-come : (room : ℕ) (d : Draft) (k : ℕ) (fs : List (List (List ℕ))) → Proper d → Comes room d k fs (linesFrom room d k fs)
-unfolding linesFrom
+unfolding linesFrom refusals place
 lines-come room d k [] g = to-end d _ ends g (ending-closes room d)
 lines-come room d k (f ∷ fs) g =
     go (eqb (line d k f .number) 0) refl (lines-come room (line d k f .draft) (suc k) fs (line-kept d g k f))
   where
     go : (b : Bool) → eqb (line d k f .number) 0 ≡ b → Comes room (line d k f .draft) (suc k) fs (linesFrom room (line d k f .draft) (suc k) fs)
         → Comes room d k (f ∷ fs) (cond b (linesFrom room (line d k f .draft) (suc k) fs) (stopped (line d k f .number) k))
-    go true e h = line-above room d _ k f fs _ (line-taken d k f (eqb-true _ _ e)) h
-    go false e h = to-line 0 k _ d (omega arith) (omega arith) ends refl (eqb-false _ _ e)
+    go true e h = line-above room d k f fs _ (eqb-true _ _ e) h
+    go false e h = to-line 0 k _ (omega arith) (omega arith) (rw e) refl (eqb-false _ _ e)
 
 -- a first line that names a version opens with `cosim`
 first-opens : (f : List (List ℕ)) → eqb (version f) 0 ≡ false → word f 0 ≡ ascii "cosim"
@@ -149,7 +151,7 @@ text-read room t = go (reading room t) (text-reads room t)
 
     come : (first : List (List ℕ)) (fs : List (List (List ℕ))) (r : Reading) → rows t ≡ first ∷ fs
         → word first 0 ≡ ascii "cosim" → Comes room blank 2 fs r → r .number ≡ 0 → Read t r
-    come first fs r l o (to-line i j n e h p c q z) x = absurd (z x)
+    come first fs r l o (to-line i j n h p a q z) x = absurd (z x)
     come first fs r l o (to-end last s c g z) x = closed first fs last s l o c g z x
 
     go : (r : Reading) → Reads room t r → r .number ≡ 0 → Read t r

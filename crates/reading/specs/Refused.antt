@@ -1,13 +1,19 @@
--- The numbers by which a line below the first is refused.
-use Prim.Native.Nat.{ℕ, _≤_}
+-- The numbers by which the lines below the first are refused.
+use Prim.Native.Nat.{ℕ, zero, suc, _≤_}
 use mathlib.Core.Path.{_≡_, refl}
 use mathlib.Core.Bool.{Bool, true, false, cond}
-use mathlib.Core.List.{List}
+use mathlib.Core.List.{List, [], _∷_}
 use native.Mathlib.Omega.{arith}
+use lib.ListN.{getD}
 use Rattle.grammar.specs.Words.{same}
 use Rattle.grammar.specs.Rows.{word}
 use Rattle.grammar.specs.Draft.{Draft}
 use Rattle.grammar.specs.Lines.{Outcome, refuse, refused, taken, unitLine, outLine, inLine, feedLine, joinLine, line}
+
+-- the number of each line from line k on, 0 where it is taken
+unfoldable pub refusals : Draft → ℕ → List (List (List ℕ)) → List ℕ
+refusals d k [] = []
+refusals d k (f ∷ fs) = line d k f .number ∷ refusals (line d k f .draft) (suc k) fs
 
 -- 24 to 30 or 32, where it is refused
 abbrev pub LineNumber : ℕ → Type 0
@@ -85,3 +91,9 @@ module _ (d : Draft) (k : ℕ) (f : List (List ℕ)) where
       go false false false true h = feed-number
       go false false false false true = join-number
       go false false false false false = omega arith
+
+pub refusals-numbers : (d : Draft) (k : ℕ) (fs : List (List (List ℕ))) (i : ℕ) → LineNumber (getD (refusals d k fs) i 0)
+unfolding refusals
+refusals-numbers d k [] i = omega arith
+refusals-numbers d k (f ∷ fs) zero = line-number d k f
+refusals-numbers d k (f ∷ fs) (suc i) = refusals-numbers (line d k f .draft) (suc k) fs i
