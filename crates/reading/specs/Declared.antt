@@ -1,10 +1,9 @@
 -- What the lines that are taken declare, in line order, with numbers from the draft they end at.
-use Prim.Native.Nat.{ℕ, zero, suc, _<_, _≤_}
+use Prim.Native.Nat.{ℕ, _<_}
 use mathlib.Core.Path.{_≡_, refl, ap, sym, _∙_}
-use mathlib.Core.Bool.{Bool, true, false, not, cond, _&&_}
+use mathlib.Core.Bool.{Bool, not, _&&_}
 use mathlib.Core.List.{List, [], _∷_, _++_, map, append-nil, map-append}
-use native.Mathlib.Omega.{arith}
-use lib.ListN.{length, getD, set, length-map}
+use lib.ListN.{length, length-map}
 use lib.Seq.{append-snoc, map-set-same}
 use lib.Dec.{T, eqb}
 use Rattle.search.specs.Truth.{is-true, is-false}
@@ -13,9 +12,9 @@ use Rattle.grammar.specs.Words.{same}
 use Rattle.grammar.specs.Same.{same-self}
 use Rattle.grammar.specs.Rows.{word, place}
 use Rattle.grammar.specs.Opening.{opens, linesOf}
-use Rattle.grammar.specs.Draft.{Draft, Output, Input, Feed, unjoined, noInput, unitNamed, outputNamed, inputNamed, addUnit, addOutput, addInput, addFeed, addJoin, joined}
+use Rattle.grammar.specs.Draft.{Draft, Output, Input, Feed, noInput, unitNamed, outputNamed, inputNamed, addUnit, addOutput, addInput, addFeed, addJoin, joined}
 use Rattle.grammar.specs.Lines.{kindOf}
-use Rattle.reading.specs.Takes.{Takes, takes-unit, takes-output, takes-input, takes-feed, takes-join, Runs, ends, goes-on}
+use Rattle.reading.specs.Takes.{takes-unit, takes-output, takes-input, takes-feed, takes-join, Runs, ends, goes-on}
 use Rattle.reading.specs.Found.{place-front, place-map}
 
 -- what there was, and behind it what each line that opens with w gives

@@ -1,5 +1,5 @@
 -- The source of each input: the output of the first line that joins the input.
-use Prim.Native.Nat.{ℕ, zero, suc, _+_, _<_, _≤_}
+use Prim.Native.Nat.{ℕ, zero, suc, _<_, _≤_}
 use mathlib.Core.Path.{_≡_, refl, ap, sym, _∙_}
 use mathlib.Core.Bool.{Bool, true, false, not, cond}
 use mathlib.Core.List.{List, [], _∷_, _++_, map, map-append}
@@ -13,10 +13,10 @@ use Rattle.search.specs.Truth.{is-true, is-false}
 use Rattle.grammar.specs.Quoted.{ascii}
 use Rattle.grammar.specs.Words.{same}
 use Rattle.grammar.specs.Same.{same-self}
-use Rattle.grammar.specs.Rows.{word, place}
+use Rattle.grammar.specs.Rows.{word}
 use Rattle.grammar.specs.Opening.{opens, linesOf}
 use Rattle.grammar.specs.Draft.{Draft, Input, unjoined, noInput, unitNamed, outputNamed, inputNamed, sourceOf, addUnit, addOutput, addInput, addFeed, addJoin, joined}
-use Rattle.reading.specs.Takes.{Takes, takes-unit, takes-output, takes-input, takes-feed, takes-join, Runs, ends, goes-on}
+use Rattle.reading.specs.Takes.{takes-unit, takes-output, takes-input, takes-feed, takes-join, Runs, ends, goes-on}
 use Rattle.reading.specs.Parts.{map-in}
 use Rattle.reading.specs.Declared.{onward, outputs-run, unit-stays, output-stays, input-stays}
 

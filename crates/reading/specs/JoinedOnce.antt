@@ -3,14 +3,12 @@ use Prim.Native.Nat.{ℕ, zero, suc, _<_, _≤_}
 use mathlib.Core.Path.{_≡_, refl, ap, sym, _∙_}
 use mathlib.Core.List.{List, [], _∷_}
 use native.Mathlib.Omega.{arith}
-use native.Mathlib.Decide.{ℕ-discrete}
 use lib.ListN.{length, getD}
 use Rattle.grammar.specs.Quoted.{ascii}
 use Rattle.grammar.specs.Words.{same}
-use Rattle.grammar.specs.Rows.{word}
 use Rattle.grammar.specs.Opening.{linesOf}
-use Rattle.grammar.specs.Draft.{Draft, unjoined, sourceOf, addUnit, addOutput, addFeed, addJoin}
-use Rattle.reading.specs.Takes.{Takes, takes-unit, takes-output, takes-input, takes-feed, takes-join, Runs, ends, goes-on}
+use Rattle.grammar.specs.Draft.{Draft, unjoined, addUnit, addOutput, addFeed}
+use Rattle.reading.specs.Takes.{takes-unit, takes-output, takes-input, takes-feed, takes-join, Runs, ends, goes-on}
 use Rattle.reading.specs.Joined.{joinInput, joinOutput, sourceAt, first-more, none-more, source-more, source-joined, source-other, source-free, join-input-stays, outputs-more}
 
 -- none of the lines joins input x

@@ -1,11 +1,10 @@
 -- The line of the first input that no line joins.
-use Prim.Native.Nat.{ℕ, zero, suc, _+_, _<_, _≤_}
+use Prim.Native.Nat.{ℕ, suc, _+_, _<_}
 use mathlib.Core.Path.{_≡_, refl, ap, sym, _∙_}
 use mathlib.Core.Bool.{Bool, true, false, not, cond, _&&_}
 use mathlib.Core.List.{List, [], _∷_, _++_, map, append-nil, map-append}
 use native.Mathlib.Omega.{arith}
-use native.Mathlib.Decide.{decLt}
-use lib.ListN.{length, getD, length-map}
+use lib.ListN.{length, getD}
 use lib.Seq.{append-snoc, map-set-same}
 use lib.Dec.{T, eqb, leb, leb→le, le→leb}
 use borrow.Author.Tests.{ne-eqb, lt-leb}
@@ -18,9 +17,9 @@ use Rattle.grammar.specs.Opening.{opens, linesOf}
 use Rattle.grammar.specs.Draft.{Draft, Input, blank, unjoined, noInput, unitNamed, outputNamed, loose, addUnit, addOutput, addInput, addFeed, addJoin, joined}
 use Rattle.reading.specs.Proper.{Proper}
 use Rattle.reading.specs.Parts.{map-in}
-use Rattle.reading.specs.Takes.{Takes, takes-unit, takes-output, takes-input, takes-feed, takes-join, Runs, ends, goes-on}
-use Rattle.reading.specs.Found.{place-most, place-map, place-along}
-use Rattle.reading.specs.Joined.{joinInput, joinOutput, sourceBy, sourceAt}
+use Rattle.reading.specs.Takes.{takes-unit, takes-output, takes-input, takes-feed, takes-join, Runs, ends, goes-on}
+use Rattle.reading.specs.Found.{place-most, place-along}
+use Rattle.reading.specs.Joined.{joinInput, joinOutput, sourceBy}
 use Rattle.reading.specs.Numbers.{joinPlace, isLoose}
 use Rattle.reading.specs.Named.{inputs-count}
 use Rattle.reading.specs.Sourced.{source-by, join-place}

@@ -1,13 +1,12 @@
 -- The numbers of the draft that the lines leave are those in line order.
-use Prim.Native.Nat.{ℕ, suc, _<_, _≤_}
-use mathlib.Core.Path.{_≡_, refl, ap, sym, _∙_, subst}
-use mathlib.Core.Bool.{Bool, true, false, not, cond, _&&_}
-use mathlib.Core.List.{List, [], _∷_, _++_, map, map-map}
+use Prim.Native.Nat.{ℕ, _<_}
+use mathlib.Core.Path.{_≡_, ap, sym, _∙_, subst}
+use mathlib.Core.Bool.{Bool, _&&_}
+use mathlib.Core.List.{List, [], map}
 use native.Mathlib.Omega.{arith}
 use lib.ListN.{length, getD, length-map}
-use lib.Dec.{T, eqb, eqb→eq}
-use borrow.Author.Tests.{eqb-true, eq-eqb}
-use Rattle.search.specs.Truth.{is-true, holds, T-and, and-T, same-test, eq-true}
+use lib.Dec.{eqb, eqb→eq}
+use Rattle.search.specs.Truth.{same-test, eq-true}
 use Rattle.grammar.specs.Quoted.{ascii}
 use Rattle.grammar.specs.Words.{same}
 use Rattle.grammar.specs.Same.{same-true, same-self}
@@ -18,7 +17,7 @@ use Rattle.grammar.specs.Draft.{Draft, Output, Input, blank, noInput, unitNamed
 use Rattle.reading.specs.Proper.{Proper, noOutput}
 use Rattle.reading.specs.Parts.{map-in}
 use Rattle.reading.specs.Takes.{Runs}
-use Rattle.reading.specs.Found.{place-map, place-alike, Once}
+use Rattle.reading.specs.Found.{place-map, place-alike}
 use Rattle.reading.specs.Declared.{onward, outputBy, inputBy, feedBy, bare, units-run, outputs-run, inputs-run, feeds-run, named-bare}
 use Rattle.reading.specs.Once.{sameOutput, sameInput, units-once, outputs-once, inputs-once}
 use Rattle.reading.specs.Numbers.{unitNumber, portNumber, outputNumber, inputNumber, feedNumbers}

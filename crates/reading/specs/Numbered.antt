@@ -1,24 +1,20 @@
 -- A text that is read: its table is that of its lines, numbered in line order.
-use Prim.Native.Nat.{ℕ, suc, _+_, _*_, _<_, _≤_}
+use Prim.Native.Nat.{ℕ, _<_, _≤_}
 use mathlib.Core.Path.{_≡_, refl, ap, sym, _∙_, fun-ext}
-use mathlib.Core.Bool.{Bool, true, false, not, cond}
-use mathlib.Core.List.{List, [], _∷_, _++_, map, map-map}
-use native.Mathlib.Omega.{arith}
+use mathlib.Core.List.{List, [], map, map-map}
 use lib.ListN.{length, getD, length-map}
-use lib.Dec.{T, eqb}
 use Rattle.grammar.specs.Quoted.{ascii}
 use Rattle.grammar.specs.Words.{same}
 use Rattle.grammar.specs.Rows.{rows, word}
 use Rattle.grammar.specs.Opening.{linesOf}
 use Rattle.grammar.specs.Draft.{Draft, Output, Input, blank, loose}
-use Rattle.grammar.specs.Lines.{kindOf}
-use Rattle.grammar.specs.Reading.{Reading, reading, stopped, written, packed, pairs as feedPairs}
-use Rattle.table.specs.Packed.{units, outputs, inputs, feeds, outputOwners, inputOwners, kinds, sources, pairs}
+use Rattle.grammar.specs.Reading.{Reading, reading, written, packed}
+use Rattle.table.specs.Packed.{outputs, inputs, feeds}
 use Rattle.reading.specs.Proper.{Proper}
 use Rattle.reading.specs.Takes.{Runs}
-use Rattle.reading.specs.Declared.{bare, outputBy, inputBy, feedBy}
+use Rattle.reading.specs.Declared.{bare, outputBy, inputBy}
 use Rattle.reading.specs.Reads.{Read, text-read}
-use Rattle.reading.specs.Numbers.{unitNumber, portNumber, outputNumber, inputNumber, joinPlace, joinOf, sourceNumber, feedNumbers, numbered}
+use Rattle.reading.specs.Numbers.{unitNumber, outputNumber, inputNumber, sourceNumber, feedNumbers, numbered}
 use Rattle.reading.specs.First.{below, unit-below, output-below, input-below, join-below, numbered-below}
 use Rattle.reading.specs.Named.{units-are, outputs-are, inputs-are, feeds-are, outputs-count, inputs-count, unit-named, feed-named, unit-at, output-at, input-at}
 use Rattle.reading.specs.Sourced.{sources-are, join-at}

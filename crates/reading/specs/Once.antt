@@ -1,17 +1,17 @@
 -- No name is declared twice: each unit, output and input is found by its name at its own number.
-use Prim.Native.Nat.{ℕ, suc, _<_, _≤_}
-use mathlib.Core.Path.{_≡_, refl, ap, sym, _∙_}
+use Prim.Native.Nat.{ℕ}
+use mathlib.Core.Path.{_≡_}
 use mathlib.Core.Bool.{Bool, true, _&&_}
-use mathlib.Core.List.{List, [], _∷_, _++_, map, map-append}
-use lib.ListN.{length, length-map}
+use mathlib.Core.List.{List, [], map, map-append}
+use lib.ListN.{length-map}
 use lib.Dec.{eqb, eqb-refl}
 use Rattle.search.specs.Truth.{is-true, and-T}
 use Rattle.grammar.specs.Words.{same}
 use Rattle.grammar.specs.Same.{same-self}
 use Rattle.grammar.specs.Rows.{word}
-use Rattle.grammar.specs.Draft.{Draft, Output, Input, noInput, unitNamed, outputNamed, inputNamed, addUnit, addOutput, addInput, addFeed, addJoin}
+use Rattle.grammar.specs.Draft.{Draft, Output, Input, noInput, unitNamed, outputNamed, addUnit, addOutput, addInput, addFeed, addJoin}
 use Rattle.reading.specs.Proper.{noOutput}
-use Rattle.reading.specs.Takes.{Takes, takes-unit, takes-output, takes-input, takes-feed, takes-join, Runs, ends, goes-on}
+use Rattle.reading.specs.Takes.{takes-unit, takes-output, takes-input, takes-feed, takes-join, Runs, ends, goes-on}
 use Rattle.reading.specs.Found.{Once, once-more}
 use Rattle.reading.specs.Declared.{bare, bare-join, named-bare}
 

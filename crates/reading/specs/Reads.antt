@@ -1,24 +1,25 @@
 -- What reading a text comes to, case by case.
 use Prim.Native.Nat.{ℕ, suc, _+_, _-_, _<_, _≤_}
-use mathlib.Core.Path.{_≡_, refl, ap, sym, _∙_}
+use mathlib.Core.Path.{_≡_, refl}
 use mathlib.Core.Bool.{Bool, true, false, not, cond, _&&_, _||_}
 use mathlib.Core.List.{List, [], _∷_}
 use native.Mathlib.Omega.{arith}
 use lib.ListN.{length, getD, drop}
 use lib.Dec.{T, eqb, ltb}
-use borrow.Author.Tests.{eqb-true, eqb-false, ltb-true, ltb-false, not-true, not-false}
-use Rattle.search.specs.Truth.{T-and, holds}
+use borrow.Author.Tests.{eqb-true, eqb-false, ltb-true, ltb-false}
+use Rattle.search.specs.Truth.{T-and, clash, eq-true}
 use Rattle.grammar.specs.Quoted.{ascii}
 use Rattle.grammar.specs.Words.{lf, same}
 use Rattle.grammar.specs.Same.{same-true}
 use Rattle.grammar.specs.Rows.{rows, word, place, lineOf, firstBad}
-use Rattle.grammar.specs.Draft.{Draft, noInput, blank, isInput, loose}
+use Rattle.grammar.specs.Places.{place-is}
+use Rattle.grammar.specs.Draft.{Draft, noInput, unjoined, blank, isInput, loose}
 use Rattle.grammar.specs.Lines.{line}
 use Rattle.grammar.specs.Reading.{Reading, reading, lineByLine, linesFrom, ending, stopped, written, packed, version}
 use Rattle.reading.specs.Proper.{Proper, blank-proper}
 use Rattle.reading.specs.Kept.{line-kept}
 use Rattle.reading.specs.Refused.{refusals}
-use Rattle.reading.specs.Takes.{Takes, line-taken, Runs, ends, goes-on}
+use Rattle.reading.specs.Takes.{line-taken, Runs, ends, goes-on}
 
 -- the end: no unit, an input that is not joined, too little room, or the table
 pub data Closes (room : ℕ) (d : Draft) : Reading → Type 0 where
@@ -116,6 +117,14 @@ text-reads room t =
         reads-lines _ (getD (rows t) 0 []) (drop 1 (rows t)) (eqb-true _ _ p) (first-some (rows t) s) (first-opens _ s)
         (lines-come room blank 2 (drop 1 (rows t)) blank-proper)
 
+-- where no input is loose each has a source
+pub not-loose : (d : Draft) → length (d .inputs) ≤ loose d
+    → (x : ℕ) → x < length (d .inputs) → getD (d .inputs) x noInput .source ≡ unjoined → ⊥
+unfolding loose
+not-loose d all x h e =
+    clash (eqb (getD (d .inputs) x noInput .source) unjoined) (eq-true _ _ e)
+    (place-is (λ i. eqb (i .source) unjoined) noInput (d .inputs) .below x (omega arith))
+
 -- ---- a text that is read
 pub record Read (t : List ℕ) (r : Reading) : Type 0 where
   pub first : List (List ℕ)
@@ -125,6 +134,7 @@ pub record Read (t : List ℕ) (r : Reading) : Type 0 where
   pub opened : word first 0 ≡ ascii "cosim"
   pub run : Runs blank 2 below draft
   pub proper : Proper draft
+  pub some : 0 < length (draft .units)
   pub joined : length (draft .inputs) ≤ loose draft
   pub result : r ≡ written draft
 
@@ -145,6 +155,7 @@ text-read room t = go (reading room t) (text-reads room t)
       opened = o;
       run = c;
       proper = g;
+      some = s;
       joined = j;
       result = refl;
     }

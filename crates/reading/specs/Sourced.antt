@@ -1,13 +1,13 @@
 -- The source of each input stands in the line that joins it; an input that no line joins has none.
 use Prim.Native.Nat.{ℕ, suc, _<_, _≤_}
 use mathlib.Core.Path.{_≡_, refl, ap, sym, _∙_, subst}
-use mathlib.Core.Bool.{Bool, true, false, not, cond, _&&_}
+use mathlib.Core.Bool.{Bool, true, false, cond, _&&_}
 use mathlib.Core.List.{List, [], _∷_, map}
 use native.Mathlib.Omega.{arith}
 use native.Mathlib.Decide.{decLt}
 use lib.ListN.{length, getD, length-map}
 use lib.Seq.{ext-getD}
-use lib.Dec.{T, eqb, ltb, eqb→eq}
+use lib.Dec.{T, eqb, eqb→eq}
 use Rattle.search.specs.Truth.{T-and, and-T, same-test, eq-true, clash}
 use Rattle.grammar.specs.Quoted.{ascii}
 use Rattle.grammar.specs.Words.{same}
@@ -18,11 +18,12 @@ use Rattle.grammar.specs.Opening.{linesOf}
 use Rattle.grammar.specs.Draft.{Draft, Input, blank, unjoined, noInput, unitNamed, inputNamed, loose}
 use Rattle.reading.specs.Proper.{Proper}
 use Rattle.reading.specs.Parts.{map-in}
+use Rattle.reading.specs.Reads.{not-loose}
 use Rattle.reading.specs.Takes.{Runs}
 use Rattle.reading.specs.Found.{place-alike}
 use Rattle.reading.specs.Joined.{joinInput, joinOutput, sourceBy, sourceAt, orBy, sources-run}
 use Rattle.reading.specs.JoinedOnce.{Apart, joins-apart}
-use Rattle.reading.specs.Numbers.{portNumber, outputNumber, inputNumber, joinPlace, joinOf, sourceNumber}
+use Rattle.reading.specs.Numbers.{portNumber, joinPlace, joinOf, sourceNumber}
 use Rattle.reading.specs.Named.{inputs-count, output-named, input-named, input-at}
 
 both-true : (a b c e : List ℕ) → T (same a b && same c e) → (a ≡ b) × (c ≡ e)
@@ -99,18 +100,13 @@ module _ (d : Draft) (fs : List (List (List ℕ))) (r : Runs blank 2 fs d) (g : 
   -- all inputs are joined
   pub sources-are : length (d .inputs) ≤ loose d → map (λ (i : Input). i .source) (d .inputs)
       ≡ map (λ f. sourceNumber fs (word f 1) (word f 2)) inputLines
-  unfolding loose
   sources-are all = ext-getD unjoined _ _ long each
     where
       long : length (map (λ (i : Input). i .source) (d .inputs)) ≡ length (map (λ f. sourceNumber fs (word f 1) (word f 2)) inputLines)
       long = length-map (d .inputs) _ ∙ inputs-count d fs r g ∙ sym (length-map inputLines _)
 
       joined : (x : ℕ) → x < length (d .inputs) → sourceAt d x ≡ unjoined → ⊥
-      joined x h e =
-          let q : getD (d .inputs) x noInput .source ≡ unjoined =
-          sym (map-in (λ (i : Input). i .source) noInput unjoined (d .inputs) x h) ∙ e in
-          clash (eqb (getD (d .inputs) x noInput .source) unjoined) (eq-true _ _ q)
-          (place-is (λ i. eqb (i .source) unjoined) noInput (d .inputs) .below x (omega arith))
+      joined x h e = not-loose d all x h (sym (map-in (λ (i : Input). i .source) noInput unjoined (d .inputs) x h) ∙ e)
 
       each : (x : ℕ) → x < length (map (λ (i : Input). i .source) (d .inputs))
           → sourceAt d x ≡ getD (map (λ f. sourceNumber fs (word f 1) (word f 2)) inputLines) x unjoined
