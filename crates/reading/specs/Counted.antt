@@ -10,18 +10,19 @@ use lib.Dec.{eqb}
 use borrow.Author.Tests.{eq-eqb, ne-eqb}
 use Rattle.grammar.specs.Words.{tab, lf}
 use Rattle.grammar.specs.Rows.{rows, grown, parted, times, lineOf}
+use Rattle.grammar.specs.Opening.{Row}
 
 -- the lines that LF ends, and one more for a last line that is not ended
 unfoldable pub lineCount : List ℕ → ℕ
 lineCount t = cond (eqb (length t) 0 || eqb (getD t (length t - 1) 0) lf) (times lf t) (suc (times lf t))
 
-grown-many : (x : ℕ) (rs : List (List (List ℕ))) → length (grown x rs) ≡ length rs
+grown-many : (x : ℕ) (rs : List Row) → length (grown x rs) ≡ length rs
 unfolding grown
 grown-many x [] = refl
 grown-many x ([] ∷ rs) = refl
 grown-many x ((f ∷ fs) ∷ rs) = refl
 
-parted-many : (rs : List (List (List ℕ))) → length (parted rs) ≡ length rs
+parted-many : (rs : List Row) → length (parted rs) ≡ length rs
 unfolding parted
 parted-many [] = refl
 parted-many (r ∷ rs) = refl

@@ -7,11 +7,11 @@ use lib.Dec.{T}
 use Rattle.grammar.specs.Quoted.{ascii}
 use Rattle.grammar.specs.Words.{same}
 use Rattle.grammar.specs.Rows.{word, place}
-use Rattle.grammar.specs.Opening.{opens, linesOf}
+use Rattle.grammar.specs.Opening.{Row, opens, linesOf}
 use Rattle.reading.specs.Joined.{none-more}
 use Rattle.reading.specs.Numbers.{unitNumber, portNumber, outputNumber, inputNumber, joinPlace, joinOf, sourceNumber, feedNumbers, isLoose, numbered}
 
-module _ (first : List (List ℕ)) (fs : List (List (List ℕ))) (opened : word first 0 ≡ ascii "cosim") where
+module _ (first : Row) (fs : List Row) (opened : word first 0 ≡ ascii "cosim") where
   pub below : (w : List ℕ) → T (not (same (ascii "cosim") w)) → linesOf w (first ∷ fs) ≡ linesOf w fs
   below w n = none-more w first fs (ascii "cosim") opened n
 

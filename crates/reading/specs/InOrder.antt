@@ -7,7 +7,7 @@ use Rattle.table.specs.Shape.{Shape}
 use Rattle.table.specs.Packed.{units, outputs, inputs, feeds, shapeOf}
 use Rattle.grammar.specs.Quoted.{ascii}
 use Rattle.grammar.specs.Rows.{rows, word}
-use Rattle.grammar.specs.Opening.{linesOf}
+use Rattle.grammar.specs.Opening.{Row, linesOf}
 use Rattle.grammar.specs.Draft.{Feed}
 use Rattle.grammar.specs.Lines.{kindOf}
 use Rattle.grammar.specs.Reading.{reading, pairs as feedPairs}
@@ -17,7 +17,7 @@ use Rattle.reading.specs.Numbers.{unitNumber, outputNumber, inputNumber,
 use Rattle.reading.specs.Numbered.{read-numbered}
 
 -- the shape s is that of the lines fs, in line order
-pub record InOrder (fs : List (List (List ℕ))) (s : Shape) : Type 0 where
+pub record InOrder (fs : List Row) (s : Shape) : Type 0 where
   pub unit-lines : s .units ≡ length (linesOf (ascii "unit") fs)
   pub output-lines : s .outputs ≡ length (linesOf (ascii "out") fs)
   pub input-lines : s .inputs ≡ length (linesOf (ascii "in") fs)
@@ -36,26 +36,26 @@ pub record InOrder (fs : List (List (List ℕ))) (s : Shape) : Type 0 where
   pub feed-output : (k : ℕ) → k < s .feeds → let f = getD (linesOf (ascii "feed") fs) k [] in
       s .feedOutput k ≡ outputNumber fs (word f 1) (word f 3)
 
-module _ (fs : List (List (List ℕ))) where
-  abbrev us : List (List (List ℕ))
+module _ (fs : List Row) where
+  abbrev us : List Row
   us = linesOf (ascii "unit") fs
 
-  abbrev ys : List (List (List ℕ))
+  abbrev ys : List Row
   ys = linesOf (ascii "out") fs
 
-  abbrev xs : List (List (List ℕ))
+  abbrev xs : List Row
   xs = linesOf (ascii "in") fs
 
-  abbrev ks : List (List (List ℕ))
+  abbrev ks : List Row
   ks = linesOf (ascii "feed") fs
 
-  abbrev unitOf : List (List ℕ) → ℕ
+  abbrev unitOf : Row → ℕ
   unitOf f = unitNumber fs (word f 1)
 
-  abbrev kind : List (List ℕ) → ℕ
+  abbrev kind : Row → ℕ
   kind f = kindOf (word f 3)
 
-  abbrev source : List (List ℕ) → ℕ
+  abbrev source : Row → ℕ
   source f = sourceNumber fs (word f 1) (word f 2)
 
   abbrev qs : List ℕ

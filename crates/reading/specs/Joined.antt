@@ -14,21 +14,21 @@ use Rattle.grammar.specs.Quoted.{ascii}
 use Rattle.grammar.specs.Words.{same}
 use Rattle.grammar.specs.Same.{same-self}
 use Rattle.grammar.specs.Rows.{word}
-use Rattle.grammar.specs.Opening.{opens, linesOf}
+use Rattle.grammar.specs.Opening.{Row, opens, linesOf}
 use Rattle.grammar.specs.Draft.{Draft, Input, unjoined, noInput, unitNamed, outputNamed, inputNamed, sourceOf, addUnit, addOutput, addInput, addFeed, addJoin, joined}
 use Rattle.reading.specs.Takes.{takes-unit, takes-output, takes-input, takes-feed, takes-join, Runs, ends, goes-on}
 use Rattle.reading.specs.Parts.{map-in}
 use Rattle.reading.specs.Declared.{onward, outputs-run, unit-stays, output-stays, input-stays}
 
 -- the input and the output that a line joins, with numbers from the draft d
-abbrev pub joinInput : Draft → List (List ℕ) → ℕ
+abbrev pub joinInput : Draft → Row → ℕ
 joinInput d f = inputNamed d (unitNamed d (word f 3)) (word f 4)
 
-abbrev pub joinOutput : Draft → List (List ℕ) → ℕ
+abbrev pub joinOutput : Draft → Row → ℕ
 joinOutput d f = outputNamed d (unitNamed d (word f 1)) (word f 2)
 
 -- the output that the first of these lines joins input x to
-unfoldable pub sourceBy : Draft → ℕ → List (List (List ℕ)) → ℕ
+unfoldable pub sourceBy : Draft → ℕ → List Row → ℕ
 sourceBy d x [] = unjoined
 sourceBy d x (f ∷ fs) = cond (eqb (joinInput d f) x) (joinOutput d f) (sourceBy d x fs)
 
@@ -49,17 +49,17 @@ map-set f (x ∷ xs) zero a = refl
 map-set f (x ∷ xs) (suc i) a = ap (λ r. f x ∷ r) (map-set f xs i a)
 
 -- ---- the lines that open with w, with one line more
-pub first-more : (w : List ℕ) (f : List (List ℕ)) (fs : List (List (List ℕ))) → word f 0 ≡ w → linesOf w (f ∷ fs) ≡ f ∷ linesOf w fs
+pub first-more : (w : List ℕ) (f : Row) (fs : List Row) → word f 0 ≡ w → linesOf w (f ∷ fs) ≡ f ∷ linesOf w fs
 unfolding linesOf opens
 first-more w f fs e = rw (e, is-true (same w w) (same-self w))
 
-pub none-more : (w : List ℕ) (f : List (List ℕ)) (fs : List (List (List ℕ))) (v : List ℕ) → word f 0 ≡ v → T (not (same v w))
+pub none-more : (w : List ℕ) (f : Row) (fs : List Row) (v : List ℕ) → word f 0 ≡ v → T (not (same v w))
     → linesOf w (f ∷ fs) ≡ linesOf w fs
 unfolding linesOf opens
 none-more w f fs v e n = rw (e, is-false (same v w) n)
 
 -- s where it is joined, else the source by these lines
-unfoldable pub orBy : ℕ → Draft → ℕ → List (List (List ℕ)) → ℕ
+unfoldable pub orBy : ℕ → Draft → ℕ → List Row → ℕ
 orBy s d x fs = cond (eqb s unjoined) (sourceBy d x (linesOf (ascii "join") fs)) s
 
 or-first : (s : ℕ) (d : Draft) (x : ℕ) → s ≡ orBy s d x []
@@ -70,18 +70,18 @@ or-first s d x = go (eqb s 255) refl
     go true e = eqb-true s 255 e
     go false e = refl
 
-or-none : (s : ℕ) (d : Draft) (x : ℕ) (f : List (List ℕ)) (fs : List (List (List ℕ))) (v : List ℕ)
+or-none : (s : ℕ) (d : Draft) (x : ℕ) (f : Row) (fs : List Row) (v : List ℕ)
     → word f 0 ≡ v → T (not (same v (ascii "join"))) → orBy s d x fs ≡ orBy s d x (f ∷ fs)
 unfolding orBy
 or-none s d x f fs v e n = rw (none-more (ascii "join") f fs v e n)
 
 -- a line that joins input x, which was not joined, to output y; and one that joins another
-or-joins : (d : Draft) (x y : ℕ) (f : List (List ℕ)) (fs : List (List (List ℕ))) → word f 0 ≡ ascii "join"
+or-joins : (d : Draft) (x y : ℕ) (f : Row) (fs : List Row) → word f 0 ≡ ascii "join"
     → joinInput d f ≡ x → joinOutput d f ≡ y → (y ≡ unjoined → ⊥) → orBy y d x fs ≡ orBy unjoined d x (f ∷ fs)
 unfolding orBy sourceBy
 or-joins d x y f fs e p q n = rw (ne-eqb y 255 n, first-more (ascii "join") f fs e, p, eq-eqb x x refl, q)
 
-or-other : (s : ℕ) (d : Draft) (x : ℕ) (f : List (List ℕ)) (fs : List (List (List ℕ))) → word f 0 ≡ ascii "join"
+or-other : (s : ℕ) (d : Draft) (x : ℕ) (f : Row) (fs : List Row) → word f 0 ≡ ascii "join"
     → (joinInput d f ≡ x → ⊥) → orBy s d x fs ≡ orBy s d x (f ∷ fs)
 unfolding orBy sourceBy
 or-other s d x f fs e n = rw (first-more (ascii "join") f fs e, ne-eqb (joinInput d f) x n)
@@ -112,7 +112,7 @@ module _ (d : Draft) (a y : ℕ) where
   source-free h e = map-in (λ (i : Input). i .source) noInput 255 (d .inputs) a h ∙ e
 
   -- a line that joins input a, which was not joined, to output y
-  or-join : (last : Draft) (f : List (List ℕ)) (fs : List (List (List ℕ))) → word f 0 ≡ ascii "join" → joinInput last f ≡ a
+  or-join : (last : Draft) (f : Row) (fs : List Row) → word f 0 ≡ ascii "join" → joinInput last f ≡ a
       → joinOutput last f ≡ y → a < length (d .inputs) → sourceOf d a ≡ unjoined → y < unjoined
       → (x : ℕ) → orBy (sourceAt (addJoin d a y) x) last x fs ≡ orBy (sourceAt d x) last x (f ∷ fs)
   or-join last f fs w p q h e l x = elim (ℕ-discrete x a) [
@@ -122,7 +122,7 @@ module _ (d : Draft) (a y : ℕ) where
   ]
 
 -- ---- a join line's input and output keep their numbers
-module _ {d last : Draft} {k : ℕ} {fs : List (List (List ℕ))} (r : Runs d k fs last) (f : List (List ℕ)) where
+module _ {d last : Draft} {k : ℕ} {fs : List Row} (r : Runs d k fs last) (f : Row) where
   pub join-input-stays : unitNamed d (word f 3) < length (d .units) → joinInput d f < length (d .inputs)
       → joinInput last f ≡ joinInput d f
   join-input-stays u x =
@@ -133,12 +133,12 @@ module _ {d last : Draft} {k : ℕ} {fs : List (List (List ℕ))} (r : Runs d k 
   join-output-stays u y =
       ap (λ u. outputNamed last u (word f 2)) (sym (unit-stays r (word f 1) u)) ∙ sym (output-stays r _ (word f 2) y)
 
-pub outputs-more : {d last : Draft} {k : ℕ} {fs : List (List (List ℕ))} → Runs d k fs last
+pub outputs-more : {d last : Draft} {k : ℕ} {fs : List Row} → Runs d k fs last
     → length (d .outputs) ≤ length (last .outputs)
 unfolding onward
 outputs-more r = rw (outputs-run r, length-append) (omega arith)
 
-pub sources-run : {d last : Draft} {k : ℕ} {fs : List (List (List ℕ))} → Runs d k fs last
+pub sources-run : {d last : Draft} {k : ℕ} {fs : List Row} → Runs d k fs last
     → length (last .outputs) ≤ 255 → (x : ℕ) → sourceAt last x ≡ orBy (sourceAt d x) last x fs
 unfolding same addUnit addOutput addFeed
 sources-run ends m x = or-first _ _ _

@@ -1,5 +1,6 @@
 pub mod Proper
 pub mod Kept
+pub mod Keyword
 pub mod Takes
 pub mod Found
 pub mod Declared

@@ -10,6 +10,7 @@ use lib.Dec.{eqb}
 use Rattle.grammar.specs.Words.{lf}
 use Rattle.grammar.specs.Quoted.{ascii}
 use Rattle.grammar.specs.Rows.{rows, word, place, lineOf, firstBad}
+use Rattle.grammar.specs.Opening.{Row}
 use Rattle.grammar.specs.Draft.{Draft, blank}
 use Rattle.grammar.specs.Reading.{Reading, reading, stopped, written}
 use Rattle.reading.specs.Proper.{Proper}
@@ -125,7 +126,7 @@ module _ (room : ℕ) (t : List ℕ) where
   }
 
   -- ---- the end, the lines, the text
-  module _ (ended : getD t (length t - 1) 0 ≡ lf) (first : List (List ℕ)) (fs : List (List (List ℕ))) (lines : rows t ≡ first ∷ fs)
+  module _ (ended : getD t (length t - 1) 0 ≡ lf) (first : Row) (fs : List Row) (lines : rows t ≡ first ∷ fs)
       (opened : word first 0 ≡ ascii "cosim") where
     many : lineCount t ≡ suc (length fs)
     many = count-rows t ended ∙ ap length lines

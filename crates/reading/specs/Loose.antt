@@ -13,7 +13,7 @@ use Rattle.grammar.specs.Quoted.{ascii}
 use Rattle.grammar.specs.Words.{same}
 use Rattle.grammar.specs.Same.{same-self}
 use Rattle.grammar.specs.Rows.{word, place}
-use Rattle.grammar.specs.Opening.{opens, linesOf}
+use Rattle.grammar.specs.Opening.{Row, opens, linesOf}
 use Rattle.grammar.specs.Draft.{Draft, Input, blank, unjoined, noInput, unitNamed, outputNamed, loose, addUnit, addOutput, addInput, addFeed, addJoin, joined}
 use Rattle.reading.specs.Proper.{Proper}
 use Rattle.reading.specs.Parts.{map-in}
@@ -25,12 +25,12 @@ use Rattle.reading.specs.Named.{inputs-count}
 use Rattle.reading.specs.Sourced.{source-by, join-place}
 
 -- the numbers of the lines that open with w, the first of all lines being line k
-unfoldable lineNumbers : List ℕ → ℕ → List (List (List ℕ)) → List ℕ
+unfoldable lineNumbers : List ℕ → ℕ → List Row → List ℕ
 lineNumbers w k [] = []
 lineNumbers w k (f ∷ fs) = cond (opens w f) (k ∷ lineNumbers w (suc k) fs) (lineNumbers w (suc k) fs)
 
 -- the lines of the inputs there were, and behind them those of the inputs that the lines declare
-unfoldable withLines : List ℕ → ℕ → List (List (List ℕ)) → List ℕ
+unfoldable withLines : List ℕ → ℕ → List Row → List ℕ
 withLines ls k fs = ls ++ lineNumbers (ascii "in") k fs
 
 module _ (ls : List ℕ) (k : ℕ) where
@@ -38,12 +38,12 @@ module _ (ls : List ℕ) (k : ℕ) where
   unfolding withLines lineNumbers
   lines-first = sym (append-nil ls)
 
-  lines-one : (f : List (List ℕ)) (fs : List (List (List ℕ))) → word f 0 ≡ ascii "in"
+  lines-one : (f : Row) (fs : List Row) → word f 0 ≡ ascii "in"
       → withLines (ls ++ (k ∷ [])) (suc k) fs ≡ withLines ls k (f ∷ fs)
   unfolding withLines lineNumbers opens
   lines-one f fs e = rw (e, is-true (same (ascii "in") (ascii "in")) (same-self (ascii "in"))) (append-snoc ls k (lineNumbers (ascii "in") (suc k) fs))
 
-  lines-none : (f : List (List ℕ)) (fs : List (List (List ℕ))) (v : List ℕ) → word f 0 ≡ v → T (not (same v (ascii "in")))
+  lines-none : (f : Row) (fs : List Row) (v : List ℕ) → word f 0 ≡ v → T (not (same v (ascii "in")))
       → withLines ls (suc k) fs ≡ withLines ls k (f ∷ fs)
   unfolding withLines lineNumbers opens
   lines-none f fs v e n = rw (e, is-false (same v (ascii "in")) n)
@@ -51,7 +51,7 @@ module _ (ls : List ℕ) (k : ℕ) where
 abbrev lineOf : Input → ℕ
 lineOf i = i .line
 
-lines-run : {d last : Draft} {k : ℕ} {fs : List (List (List ℕ))} → Runs d k fs last
+lines-run : {d last : Draft} {k : ℕ} {fs : List Row} → Runs d k fs last
     → map lineOf (last .inputs) ≡ withLines (map lineOf (d .inputs)) k fs
 unfolding same addUnit addOutput addInput addFeed addJoin joined
 lines-run ends = lines-first _ _
@@ -65,7 +65,7 @@ lines-run {d} (goes-on {k = k} {fs = fs} (takes-join w u y v x s) r) =
     ∙ lines-none _ _ _ _ _ w tt
 
 -- the first of the lines that open with w and pass is the first line that opens with w and passes
-first-line : (w : List ℕ) (p : List (List ℕ) → Bool) (k : ℕ) (fs : List (List (List ℕ))) → place p (linesOf w fs) < length (linesOf w fs)
+first-line : (w : List ℕ) (p : Row → Bool) (k : ℕ) (fs : List Row) → place p (linesOf w fs) < length (linesOf w fs)
     → (getD (lineNumbers w k fs) (place p (linesOf w fs)) 0 ≡ k + place (λ f. opens w f && p f) fs)
     × (place (λ f. opens w f && p f) fs < length fs)
 unfolding lineNumbers linesOf place
@@ -99,7 +99,7 @@ leb-suc a b = same-test (leb a b) (leb (suc a) (suc b)) (λ t. le→leb (suc a) 
     (λ t. le→leb a b (omega (arith, leb→le (suc a) (suc b) t)))
 
 -- an input has no source exactly when no line joins it
-by-none : (d : Draft) (x : ℕ) (js : List (List (List ℕ))) → ((f : List (List ℕ)) → joinOutput d f < unjoined)
+by-none : (d : Draft) (x : ℕ) (js : List Row) → ((f : Row) → joinOutput d f < unjoined)
     → eqb (sourceBy d x js) unjoined ≡ leb (length js) (place (λ f. eqb (joinInput d f) x) js)
 unfolding sourceBy place
 by-none d x [] low = refl
@@ -111,14 +111,14 @@ by-none d x (f ∷ fs) low = go (eqb (joinInput d f) x) (by-none d x fs low)
     go true ih = ne-eqb (joinOutput d f) 255 (λ e. omega (arith, low f)) ∙ sym (lt-leb (suc (length fs)) 0 (omega arith))
     go false ih = ih ∙ leb-suc (length fs) (place (λ f. eqb (joinInput d f) x) fs)
 
-module _ (d : Draft) (fs : List (List (List ℕ))) (r : Runs blank 2 fs d) (g : Proper d) where
-  abbrev inputLines : List (List (List ℕ))
+module _ (d : Draft) (fs : List Row) (r : Runs blank 2 fs d) (g : Proper d) where
+  abbrev inputLines : List Row
   inputLines = linesOf (ascii "in") fs
 
-  abbrev free : List (List ℕ) → Bool
+  abbrev free : Row → Bool
   free f = leb (length (linesOf (ascii "join") fs)) (joinPlace fs (word f 1) (word f 2))
 
-  low : (f : List (List ℕ)) → joinOutput d f < unjoined
+  low : (f : Row) → joinOutput d f < unjoined
   unfolding outputNamed
   low f = omega (arith, place-most (λ o. eqb (o .owner) (unitNamed d (word f 1)) && same (o .name) (word f 2)) (d .outputs), g .outputs-most)
 

@@ -12,7 +12,7 @@ use Rattle.grammar.specs.Words.{same}
 use Rattle.grammar.specs.Same.{same-true, same-self}
 use Rattle.grammar.specs.Rows.{word, place}
 use Rattle.grammar.specs.Places.{place-is}
-use Rattle.grammar.specs.Opening.{linesOf}
+use Rattle.grammar.specs.Opening.{Row, linesOf}
 use Rattle.grammar.specs.Draft.{Draft, Output, Input, blank, noInput, unitNamed, outputNamed, inputNamed}
 use Rattle.reading.specs.Proper.{Proper, noOutput}
 use Rattle.reading.specs.Parts.{map-in}
@@ -22,14 +22,14 @@ use Rattle.reading.specs.Declared.{onward, outputBy, inputBy, feedBy, ba
 use Rattle.reading.specs.Once.{sameOutput, sameInput, units-once, outputs-once, inputs-once}
 use Rattle.reading.specs.Numbers.{unitNumber, portNumber, outputNumber, inputNumber, feedNumbers}
 
-module _ (d : Draft) (fs : List (List (List ℕ))) (r : Runs blank 2 fs d) (g : Proper d) where
-  abbrev unitLines : List (List (List ℕ))
+module _ (d : Draft) (fs : List Row) (r : Runs blank 2 fs d) (g : Proper d) where
+  abbrev unitLines : List Row
   unitLines = linesOf (ascii "unit") fs
 
-  abbrev outputLines : List (List (List ℕ))
+  abbrev outputLines : List Row
   outputLines = linesOf (ascii "out") fs
 
-  abbrev inputLines : List (List (List ℕ))
+  abbrev inputLines : List Row
   inputLines = linesOf (ascii "in") fs
 
   -- ---- what the draft holds
@@ -108,7 +108,7 @@ module _ (d : Draft) (fs : List (List (List ℕ))) (r : Runs blank 2 fs d) (g : 
       ∙ place-alike _ _ [] inputLines
       (λ i h. ap (λ b. b && same (word (getD inputLines i []) 2) w) (owner-alike (word (getD inputLines i []) 1) v (input-known i h)))
 
-  pub feed-named : (f : List (List ℕ)) → feedBy d f ≡ feedNumbers fs f
+  pub feed-named : (f : Row) → feedBy d f ≡ feedNumbers fs f
   unfolding feedNumbers
   feed-named f = rw (input-named (word f 1) (word f 2), output-named (word f 1) (word f 3))
 

@@ -6,7 +6,7 @@ use lib.ListN.{length, getD, length-map}
 use Rattle.grammar.specs.Quoted.{ascii}
 use Rattle.grammar.specs.Words.{same}
 use Rattle.grammar.specs.Rows.{rows, word}
-use Rattle.grammar.specs.Opening.{linesOf}
+use Rattle.grammar.specs.Opening.{Row, linesOf}
 use Rattle.grammar.specs.Draft.{Draft, Output, Input, blank, loose}
 use Rattle.grammar.specs.Reading.{Reading, reading, written, packed}
 use Rattle.table.specs.Packed.{outputs, inputs, feeds}
@@ -19,7 +19,7 @@ use Rattle.reading.specs.First.{below, unit-below, output-below, input-b
 use Rattle.reading.specs.Named.{units-are, outputs-are, inputs-are, feeds-are, outputs-count, inputs-count, unit-named, feed-named, unit-at, output-at, input-at}
 use Rattle.reading.specs.Sourced.{sources-are, join-at}
 
-module _ (d : Draft) (fs : List (List (List ℕ))) (r : Runs blank 2 fs d) (g : Proper d) (all : length (d .inputs) ≤ loose d) where
+module _ (d : Draft) (fs : List Row) (r : Runs blank 2 fs d) (g : Proper d) (all : length (d .inputs) ≤ loose d) where
   of-outputs : map (λ (o : Output). o .owner) (d .outputs) ≡ map (λ f. unitNumber fs (word f 1)) (linesOf (ascii "out") fs)
   of-outputs =
       ap (map (λ (o : Output). o .owner)) (outputs-are d fs r g) ∙ map-map (λ (o : Output). o .owner) (outputBy d) (linesOf (ascii "out") fs)

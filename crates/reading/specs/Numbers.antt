@@ -7,46 +7,46 @@ use lib.Dec.{leb}
 use Rattle.grammar.specs.Quoted.{ascii}
 use Rattle.grammar.specs.Words.{same}
 use Rattle.grammar.specs.Rows.{word, place}
-use Rattle.grammar.specs.Opening.{opens, linesOf}
+use Rattle.grammar.specs.Opening.{Row, opens, linesOf}
 use Rattle.grammar.specs.Draft.{Feed}
 use Rattle.grammar.specs.Lines.{kindOf}
 use Rattle.grammar.specs.Reading.{pairs}
 
 -- "Numbers are given in line order": the place of the unit n among the `unit` lines
-unfoldable pub unitNumber : List (List (List ℕ)) → List ℕ → ℕ
+unfoldable pub unitNumber : List Row → List ℕ → ℕ
 unitNumber fs n = place (λ f. same (word f 1) n) (linesOf (ascii "unit") fs)
 
 -- the place of the port n of the unit u among the lines that open with w
-unfoldable pub portNumber : List ℕ → List (List (List ℕ)) → List ℕ → List ℕ → ℕ
+unfoldable pub portNumber : List ℕ → List Row → List ℕ → List ℕ → ℕ
 portNumber w fs u n = place (λ f. same (word f 1) u && same (word f 2) n) (linesOf w fs)
 
-abbrev pub outputNumber : List (List (List ℕ)) → List ℕ → List ℕ → ℕ
+abbrev pub outputNumber : List Row → List ℕ → List ℕ → ℕ
 outputNumber = portNumber (ascii "out")
 
-abbrev pub inputNumber : List (List (List ℕ)) → List ℕ → List ℕ → ℕ
+abbrev pub inputNumber : List Row → List ℕ → List ℕ → ℕ
 inputNumber = portNumber (ascii "in")
 
 -- the place of the line that joins the input n of the unit u among the `join` lines, and that line
-unfoldable pub joinPlace : List (List (List ℕ)) → List ℕ → List ℕ → ℕ
+unfoldable pub joinPlace : List Row → List ℕ → List ℕ → ℕ
 joinPlace fs u n = place (λ f. same (word f 3) u && same (word f 4) n) (linesOf (ascii "join") fs)
 
-unfoldable pub joinOf : List (List (List ℕ)) → List ℕ → List ℕ → List (List ℕ)
+unfoldable pub joinOf : List Row → List ℕ → List ℕ → Row
 joinOf fs u n = getD (linesOf (ascii "join") fs) (joinPlace fs u n) []
 
 -- the output that this line names
-unfoldable pub sourceNumber : List (List (List ℕ)) → List ℕ → List ℕ → ℕ
+unfoldable pub sourceNumber : List Row → List ℕ → List ℕ → ℕ
 sourceNumber fs u n = outputNumber fs (word (joinOf fs u n) 1) (word (joinOf fs u n) 2)
 
 -- f is an `in` line whose input no line joins
-unfoldable pub isLoose : List (List (List ℕ)) → List (List ℕ) → Bool
+unfoldable pub isLoose : List Row → Row → Bool
 isLoose fs f = opens (ascii "in") f && leb (length (linesOf (ascii "join") fs)) (joinPlace fs (word f 1) (word f 2))
 
 -- the pair that a `feed` line names
-unfoldable pub feedNumbers : List (List (List ℕ)) → List (List ℕ) → Feed
+unfoldable pub feedNumbers : List Row → Row → Feed
 feedNumbers fs f = record { input = inputNumber fs (word f 1) (word f 2); output = outputNumber fs (word f 1) (word f 3) }
 
 -- "The packed table": counts, owners of outputs and of inputs, kinds, sources, feeds
-unfoldable pub numbered : List (List (List ℕ)) → List ℕ
+unfoldable pub numbered : List Row → List ℕ
 numbered fs =
     let units = linesOf (ascii "unit") fs in
     let outputs = linesOf (ascii "out") fs in

@@ -9,6 +9,7 @@ use Rattle.search.specs.Truth.{is-true, and-T}
 use Rattle.grammar.specs.Words.{same}
 use Rattle.grammar.specs.Same.{same-self}
 use Rattle.grammar.specs.Rows.{word}
+use Rattle.grammar.specs.Opening.{Row}
 use Rattle.grammar.specs.Draft.{Draft, Output, Input, noInput, unitNamed, outputNamed, addUnit, addOutput, addInput, addFeed, addJoin}
 use Rattle.reading.specs.Proper.{noOutput}
 use Rattle.reading.specs.Takes.{takes-unit, takes-output, takes-input, takes-feed, takes-join, Runs, ends, goes-on}
@@ -27,7 +28,7 @@ sameInput i j = eqb (j .owner) (i .owner) && same (j .name) (i .name)
 self : (u : ℕ) (w : List ℕ) → eqb u u && same w w ≡ true
 self u w = is-true (eqb u u && same w w) (and-T (eqb u u) (same w w) (eqb-refl u) (same-self w))
 
-pub units-once : {d last : Draft} {k : ℕ} {fs : List (List (List ℕ))} → Runs d k fs last
+pub units-once : {d last : Draft} {k : ℕ} {fs : List Row} → Runs d k fs last
     → Once sameName [] (d .units) → Once sameName [] (last .units)
 unfolding unitNamed addUnit addOutput addInput addFeed addJoin
 units-once ends h = h
@@ -37,7 +38,7 @@ units-once (goes-on (takes-input w u n) r) h = units-once r h
 units-once (goes-on (takes-feed w u x y) r) h = units-once r h
 units-once (goes-on (takes-join w u y v x s) r) h = units-once r h
 
-pub outputs-once : {d last : Draft} {k : ℕ} {fs : List (List (List ℕ))} → Runs d k fs last
+pub outputs-once : {d last : Draft} {k : ℕ} {fs : List Row} → Runs d k fs last
     → Once sameOutput noOutput (d .outputs) → Once sameOutput noOutput (last .outputs)
 unfolding outputNamed addUnit addOutput addInput addFeed addJoin
 outputs-once ends h = h
@@ -48,7 +49,7 @@ outputs-once (goes-on (takes-input w u n) r) h = outputs-once r h
 outputs-once (goes-on (takes-feed w u x y) r) h = outputs-once r h
 outputs-once (goes-on (takes-join w u y v x s) r) h = outputs-once r h
 
-pub inputs-once : {d last : Draft} {k : ℕ} {fs : List (List (List ℕ))} → Runs d k fs last
+pub inputs-once : {d last : Draft} {k : ℕ} {fs : List Row} → Runs d k fs last
     → Once sameInput noInput (map bare (d .inputs)) → Once sameInput noInput (map bare (last .inputs))
 unfolding addUnit addOutput addInput addFeed
 inputs-once ends h = h

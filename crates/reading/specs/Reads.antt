@@ -12,6 +12,7 @@ use Rattle.grammar.specs.Quoted.{ascii}
 use Rattle.grammar.specs.Words.{lf, same}
 use Rattle.grammar.specs.Same.{same-true}
 use Rattle.grammar.specs.Rows.{rows, word, place, lineOf, firstBad}
+use Rattle.grammar.specs.Opening.{Row}
 use Rattle.grammar.specs.Places.{place-is}
 use Rattle.grammar.specs.Draft.{Draft, noInput, unjoined, blank, isInput, loose}
 use Rattle.grammar.specs.Lines.{line}
@@ -29,7 +30,7 @@ pub data Closes (room : ℕ) (d : Draft) : Reading → Type 0 where
   closes-0 : 0 < length (d .units) → length (d .inputs) ≤ loose d → Closes room d (written d)
 
 -- the lines from line k on: one is the first that is refused, or all are taken
-pub data Comes (room : ℕ) (d : Draft) (k : ℕ) (fs : List (List (List ℕ))) : Reading → Type 0 where
+pub data Comes (room : ℕ) (d : Draft) (k : ℕ) (fs : List Row) : Reading → Type 0 where
   to-line : (i j n : ℕ) → i < length fs → j ≡ k + i → place (λ n. not (eqb n 0)) (refusals d k fs) ≡ i
       → getD (refusals d k fs) i 0 ≡ n → (n ≡ 0 → ⊥) → Comes room d k fs (stopped n j)
   to-end : (last : Draft) (r : Reading) → Runs d k fs last → Proper last → Closes room last r → Comes room d k fs r
@@ -40,7 +41,7 @@ pub data Reads (room : ℕ) (t : List ℕ) : Reading → Type 0 where
   reads-21 : 0 < length t → (getD t (length t - 1) 0 ≡ lf → ⊥) → Reads room t (stopped 21 (lineOf t (length t)))
   reads-22 : getD t (length t - 1) 0 ≡ lf → firstBad t < length t → Reads room t (stopped 22 (lineOf t (firstBad t)))
   reads-23 : getD t (length t - 1) 0 ≡ lf → Reads room t (stopped 23 1)
-  reads-lines : (r : Reading) (first : List (List ℕ)) (fs : List (List (List ℕ))) → getD t (length t - 1) 0 ≡ lf
+  reads-lines : (r : Reading) (first : Row) (fs : List Row) → getD t (length t - 1) 0 ≡ lf
       → rows t ≡ first ∷ fs → word first 0 ≡ ascii "cosim" → Comes room blank 2 fs r → Reads room t r
 
 pub ending-closes : (room : ℕ) (d : Draft) → Closes room d (ending room d)
@@ -59,14 +60,14 @@ ending-closes room d = go (eqb (length (d .units)) 0) refl (ltb (loose d) (lengt
         some : (n : ℕ) → (n ≡ 0 → ⊥) → 0 < n
         some n z = omega arith
 
-line-above : (room : ℕ) (d : Draft) (k : ℕ) (f : List (List ℕ)) (fs : List (List (List ℕ))) (r : Reading)
+line-above : (room : ℕ) (d : Draft) (k : ℕ) (f : Row) (fs : List Row) (r : Reading)
     → line d k f .number ≡ 0 → Comes room (line d k f .draft) (suc k) fs r → Comes room d k (f ∷ fs) r
 unfolding refusals place
 line-above room d k f fs r t (to-line i j n h p a q z) =
     to-line (suc i) j n (omega arith) (omega arith) (rw (t, a)) q z
 line-above room d k f fs r t (to-end last s c g x) = to-end last s (goes-on (line-taken d k f t) c) g x
 
-pub lines-come : (room : ℕ) (d : Draft) (k : ℕ) (fs : List (List (List ℕ))) → Proper d → Comes room d k fs (linesFrom room d k fs)
+pub lines-come : (room : ℕ) (d : Draft) (k : ℕ) (fs : List Row) → Proper d → Comes room d k fs (linesFrom room d k fs)
 unfolding linesFrom refusals place
 lines-come room d k [] g = to-end d _ ends g (ending-closes room d)
 lines-come room d k (f ∷ fs) g =
@@ -78,7 +79,7 @@ lines-come room d k (f ∷ fs) g =
     go false e h = to-line 0 k _ (omega arith) (omega arith) (rw e) refl (eqb-false _ _ e)
 
 -- a first line that names a version opens with `cosim`
-first-opens : (f : List (List ℕ)) → eqb (version f) 0 ≡ false → word f 0 ≡ ascii "cosim"
+first-opens : (f : Row) → eqb (version f) 0 ≡ false → word f 0 ≡ ascii "cosim"
 unfolding version
 first-opens f e =
     let a = eqb (length f) 2 in
@@ -90,7 +91,7 @@ first-opens f e =
     go true e = tt
     go false e = absurd (mathlib.Core.Bool.true≢false e)
 
-first-some : (fs : List (List (List ℕ))) → eqb (version (getD fs 0 [])) 0 ≡ false → fs ≡ getD fs 0 [] ∷ drop 1 fs
+first-some : (fs : List Row) → eqb (version (getD fs 0 [])) 0 ≡ false → fs ≡ getD fs 0 [] ∷ drop 1 fs
 unfolding version
 first-some [] e = absurd (mathlib.Core.Bool.true≢false e)
 first-some (f ∷ fs) e = refl
@@ -127,8 +128,8 @@ not-loose d all x h e =
 
 -- ---- a text that is read
 pub record Read (t : List ℕ) (r : Reading) : Type 0 where
-  pub first : List (List ℕ)
-  pub below : List (List (List ℕ))
+  pub first : Row
+  pub below : List Row
   pub draft : Draft
   pub lines : rows t ≡ first ∷ below
   pub opened : word first 0 ≡ ascii "cosim"
@@ -142,7 +143,7 @@ pub text-read : (room : ℕ) (t : List ℕ) → reading room t .number ≡ 0 →
 unfolding stopped
 text-read room t = go (reading room t) (text-reads room t)
   where
-    closed : (first : List (List ℕ)) (fs : List (List (List ℕ))) (last : Draft) (r : Reading) → rows t ≡ first ∷ fs
+    closed : (first : Row) (fs : List Row) (last : Draft) (r : Reading) → rows t ≡ first ∷ fs
         → word first 0 ≡ ascii "cosim" → Runs blank 2 fs last → Proper last → Closes room last r → r .number ≡ 0 → Read t r
     closed first fs last r l o c g (closes-33 z) e = absurd (omega arith)
     closed first fs last r l o c g (closes-31 z) e = absurd (omega arith)
@@ -160,7 +161,7 @@ text-read room t = go (reading room t) (text-reads room t)
       result = refl;
     }
 
-    come : (first : List (List ℕ)) (fs : List (List (List ℕ))) (r : Reading) → rows t ≡ first ∷ fs
+    come : (first : Row) (fs : List Row) (r : Reading) → rows t ≡ first ∷ fs
         → word first 0 ≡ ascii "cosim" → Comes room blank 2 fs r → r .number ≡ 0 → Read t r
     come first fs r l o (to-line i j n h p a q z) x = absurd (z x)
     come first fs r l o (to-end last s c g z) x = closed first fs last s l o c g z x

@@ -1,17 +1,17 @@
 -- The numbers by which the lines below the first are refused.
 use Prim.Native.Nat.{ℕ, zero, suc, _≤_}
 use mathlib.Core.Path.{_≡_, refl}
-use mathlib.Core.Bool.{Bool, true, false, cond}
+use mathlib.Core.Bool.{Bool, true, false}
 use mathlib.Core.List.{List, [], _∷_}
 use native.Mathlib.Omega.{arith}
 use lib.ListN.{getD}
-use Rattle.grammar.specs.Words.{same}
-use Rattle.grammar.specs.Rows.{word}
+use Rattle.grammar.specs.Opening.{Row}
 use Rattle.grammar.specs.Draft.{Draft}
 use Rattle.grammar.specs.Lines.{Outcome, refuse, refused, taken, unitLine, outLine, inLine, feedLine, joinLine, line}
+use Rattle.reading.specs.Keyword.{by-keyword}
 
 -- the number of each line from line k on, 0 where it is taken
-unfoldable pub refusals : Draft → ℕ → List (List (List ℕ)) → List ℕ
+unfoldable pub refusals : Draft → ℕ → List Row → List ℕ
 refusals d k [] = []
 refusals d k (f ∷ fs) = line d k f .number ∷ refusals (line d k f .draft) (suc k) fs
 
@@ -19,7 +19,7 @@ refusals d k (f ∷ fs) = line d k f .number ∷ refusals (line d k f .draft) (s
 abbrev pub LineNumber : ℕ → Type 0
 LineNumber n = (n ≡ 0 → ⊥) → (24 ≤ n) × (n ≤ 32) × (n ≡ 31 → ⊥)
 
-module _ (d : Draft) (k : ℕ) (f : List (List ℕ)) where
+module _ (d : Draft) (k : ℕ) (f : Row) where
   or-number : (b : Bool) (n : ℕ) (o : Outcome) → LineNumber n → (b ≡ false → LineNumber (o .number)) → LineNumber (refuse b n d o .number)
   unfolding refuse refused
   or-number true n o p h = p
@@ -80,19 +80,11 @@ module _ (d : Draft) (k : ℕ) (f : List (List ℕ)) where
       omega arith
 
   pub line-number : LineNumber (line d k f .number)
-  unfolding line refused
-  line-number = go (same (word f 0) _) (same (word f 0) _) (same (word f 0) _) (same (word f 0) _) (same (word f 0) _)
-    where
-      go : (a b c e h : Bool)
-          → LineNumber (cond a (unitLine d f) (cond b (outLine d f) (cond c (inLine d k f) (cond e (feedLine d f) (cond h (joinLine d f) (record { number = 24; draft = d }))))) .number)
-      go true b c e h = unit-number
-      go false true c e h = output-number
-      go false false true e h = input-number
-      go false false false true h = feed-number
-      go false false false false true = join-number
-      go false false false false false = omega arith
+  unfolding refused
+  line-number = by-keyword (λ o. LineNumber (o .number)) d k f
+      (λ w. unit-number) (λ w. output-number) (λ w. input-number) (λ w. feed-number) (λ w. join-number) (omega arith)
 
-pub refusals-numbers : (d : Draft) (k : ℕ) (fs : List (List (List ℕ))) (i : ℕ) → LineNumber (getD (refusals d k fs) i 0)
+pub refusals-numbers : (d : Draft) (k : ℕ) (fs : List Row) (i : ℕ) → LineNumber (getD (refusals d k fs) i 0)
 unfolding refusals
 refusals-numbers d k [] i = omega arith
 refusals-numbers d k (f ∷ fs) zero = line-number d k f

@@ -14,7 +14,7 @@ use Rattle.grammar.specs.Words.{same}
 use Rattle.grammar.specs.Same.{same-true, same-self}
 use Rattle.grammar.specs.Rows.{word, place}
 use Rattle.grammar.specs.Places.{place-is}
-use Rattle.grammar.specs.Opening.{linesOf}
+use Rattle.grammar.specs.Opening.{Row, linesOf}
 use Rattle.grammar.specs.Draft.{Draft, Input, blank, unjoined, noInput, unitNamed, inputNamed, loose}
 use Rattle.reading.specs.Proper.{Proper}
 use Rattle.reading.specs.Parts.{map-in}
@@ -33,7 +33,7 @@ both-same : (a b c e : List ℕ) → a ≡ b → c ≡ e → T (same a b && same
 both-same a b c e p q = rw (p, q) (and-T (same b b) (same e e) (same-self b) (same-self e))
 
 -- a source that is there is that of the first line that joins the input
-first-join : (d : Draft) (x : ℕ) (fs : List (List (List ℕ))) → (sourceBy d x fs ≡ unjoined → ⊥)
+first-join : (d : Draft) (x : ℕ) (fs : List Row) → (sourceBy d x fs ≡ unjoined → ⊥)
     → sourceBy d x fs ≡ joinOutput d (getD fs (place (λ f. eqb (joinInput d f) x) fs) [])
 unfolding sourceBy place
 first-join d x [] n = absurd (n refl)
@@ -45,11 +45,11 @@ first-join d x (f ∷ fs) n = go (eqb (joinInput d f) x) (first-join d x fs) n
     go true ih n = refl
     go false ih n = ih n
 
-module _ (d : Draft) (fs : List (List (List ℕ))) (r : Runs blank 2 fs d) (g : Proper d) where
-  abbrev inputLines : List (List (List ℕ))
+module _ (d : Draft) (fs : List Row) (r : Runs blank 2 fs d) (g : Proper d) where
+  abbrev inputLines : List Row
   inputLines = linesOf (ascii "in") fs
 
-  abbrev joinLines : List (List (List ℕ))
+  abbrev joinLines : List Row
   joinLines = linesOf (ascii "join") fs
 
   pub source-by : (x : ℕ) → sourceAt d x ≡ sourceBy d x joinLines
@@ -57,15 +57,15 @@ module _ (d : Draft) (fs : List (List (List ℕ))) (r : Runs blank 2 fs d) (g : 
   source-by x = sources-run r (omega (arith, g .outputs-most)) x
 
   -- a line joins input x when it names its unit and its name
-  joins-alike : (x : ℕ) → x < length inputLines → (f : List (List ℕ))
+  joins-alike : (x : ℕ) → x < length inputLines → (f : Row)
       → eqb (joinInput d f) x ≡ same (word f 3) (word (getD inputLines x []) 1) && same (word f 4) (word (getD inputLines x []) 2)
   unfolding portNumber
   joins-alike x h f = same-test (eqb (joinInput d f) x) (same (word f 3) (word i 1) && same (word f 4) (word i 2)) there back
     where
-      i : List (List ℕ)
+      i : Row
       i = getD inputLines x []
 
-      test : List (List ℕ) → Bool
+      test : Row → Bool
       test j = same (word j 1) (word f 3) && same (word j 2) (word f 4)
 
       -- the line at the number that is found has the unit and the name
@@ -121,10 +121,10 @@ module _ (d : Draft) (fs : List (List (List ℕ))) (r : Runs blank 2 fs d) (g : 
   unfolding joinOf joinPlace Apart
   join-at j h = ap (λ k. getD joinLines k []) found
     where
-      f : List (List ℕ)
+      f : Row
       f = getD joinLines j []
 
-      test : List (List ℕ) → Bool
+      test : Row → Bool
       test i = same (word i 3) (word f 3) && same (word i 4) (word f 4)
 
       found : place test joinLines ≡ j

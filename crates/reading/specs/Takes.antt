@@ -1,21 +1,20 @@
 -- What a line that is taken adds to the draft, and the draft that lines taken one after the other give.
 use Prim.Native.Nat.{ℕ, suc, _<_, _≤_}
 use mathlib.Core.Path.{_≡_, refl}
-use mathlib.Core.Bool.{Bool, true, false, cond}
+use mathlib.Core.Bool.{Bool, true, false}
 use mathlib.Core.List.{List, [], _∷_}
 use native.Mathlib.Omega.{arith}
 use lib.ListN.{length}
 use borrow.Author.Tests.{eqb-true, ltb-true, ltb-false, not-false}
-use Rattle.search.specs.Truth.{holds}
 use Rattle.grammar.specs.Quoted.{ascii}
-use Rattle.grammar.specs.Words.{same}
-use Rattle.grammar.specs.Same.{same-true}
 use Rattle.grammar.specs.Rows.{word}
+use Rattle.grammar.specs.Opening.{Row}
 use Rattle.grammar.specs.Draft.{Draft, unjoined, unitNamed, outputNamed, inputNamed, sourceOf, isUnit, isOutput, isInput, addUnit, addOutput, addInput, addFeed, addJoin}
 use Rattle.grammar.specs.Lines.{Outcome, refuse, refused, taken, kindOf, unitLine, outLine, inLine, feedLine, joinLine, line}
+use Rattle.reading.specs.Keyword.{by-keyword}
 
 -- line k, with fields f, is taken and leaves this draft
-pub data Takes (d : Draft) (k : ℕ) (f : List (List ℕ)) : Draft → Type 0 where
+pub data Takes (d : Draft) (k : ℕ) (f : Row) : Draft → Type 0 where
   takes-unit : word f 0 ≡ ascii "unit" → length (d .units) ≤ unitNamed d (word f 1)
       → Takes d k f (addUnit d (word f 1))
   takes-output : word f 0 ≡ ascii "out" → unitNamed d (word f 1) < length (d .units)
@@ -44,7 +43,7 @@ pub data Takes (d : Draft) (k : ℕ) (f : List (List ℕ)) : Draft → Type 0 wh
       → sourceOf d (inputNamed d (unitNamed d (word f 3)) (word f 4)) ≡ unjoined
       → Takes d k f (addJoin d (inputNamed d (unitNamed d (word f 3)) (word f 4)) (outputNamed d (unitNamed d (word f 1)) (word f 2)))
 
-module _ (d : Draft) (k : ℕ) (f : List (List ℕ)) where
+module _ (d : Draft) (k : ℕ) (f : Row) where
   -- not refused: the test did not pass, and what is left was taken
   passed : (b : Bool) (n : ℕ) (o : Outcome) → 0 < n → (b ≡ false → o .number ≡ 0 → Takes d k f (o .draft))
       → refuse b n d o .number ≡ 0 → Takes d k f (refuse b n d o .draft)
@@ -109,27 +108,12 @@ module _ (d : Draft) (k : ℕ) (f : List (List ℕ)) where
 
   -- a line with no refusal is one of the five, and adds what it declares
   pub line-taken : line d k f .number ≡ 0 → Takes d k f (line d k f .draft)
-  unfolding line refused
-  line-taken = go (same (word f 0) _) refl (same (word f 0) _) refl (same (word f 0) _) refl (same (word f 0) _) refl
-      (same (word f 0) _) refl
-    where
-      opened : (w : List ℕ) → same (word f 0) w ≡ true → word f 0 ≡ w
-      opened w e = same-true (word f 0) w (holds _ e)
-
-      go : (a : Bool) → same (word f 0) (ascii "unit") ≡ a → (b : Bool) → same (word f 0) (ascii "out") ≡ b
-          → (c : Bool) → same (word f 0) (ascii "in") ≡ c → (e : Bool) → same (word f 0) (ascii "feed") ≡ e
-          → (h : Bool) → same (word f 0) (ascii "join") ≡ h
-          → cond a (unitLine d f) (cond b (outLine d f) (cond c (inLine d k f) (cond e (feedLine d f) (cond h (joinLine d f) (record { number = 24; draft = d }))))) .number ≡ 0
-          → Takes d k f (cond a (unitLine d f) (cond b (outLine d f) (cond c (inLine d k f) (cond e (feedLine d f) (cond h (joinLine d f) (record { number = 24; draft = d }))))) .draft)
-      go true p b q c r e s h t = unit-taken (opened _ p)
-      go false p true q c r e s h t = output-taken (opened _ q)
-      go false p false q true r e s h t = input-taken (opened _ r)
-      go false p false q false r true s h t = feed-taken (opened _ s)
-      go false p false q false r false s true t = join-taken (opened _ t)
-      go false p false q false r false s false t = λ z. absurd (omega arith)
+  unfolding refused
+  line-taken = by-keyword (λ o. o .number ≡ 0 → Takes d k f (o .draft)) d k f
+      unit-taken output-taken input-taken feed-taken join-taken (λ z. absurd (omega arith))
 
 -- the lines from line k on are taken one after the other, and leave the last draft
-pub data Runs : Draft → ℕ → List (List (List ℕ)) → Draft → Type 0 where
+pub data Runs : Draft → ℕ → List Row → Draft → Type 0 where
   ends : {d : Draft} {k : ℕ} → Runs d k [] d
-  goes-on : {d e last : Draft} {k : ℕ} {f : List (List ℕ)} {fs : List (List (List ℕ))}
+  goes-on : {d e last : Draft} {k : ℕ} {f : Row} {fs : List Row}
       → Takes d k f e → Runs e (suc k) fs last → Runs d k (f ∷ fs) last
