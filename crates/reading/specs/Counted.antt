@@ -34,7 +34,8 @@ rows-many [] = refl
 rows-many (x ∷ xs) = go (eqb x lf) (eqb x tab) (rows-many xs)
   where
     go : (l p : Bool) → length (rows xs) ≡ times lf xs
-        → length (cond l (([] ∷ []) ∷ rows xs) (cond p (parted (rows xs)) (grown x (rows xs)))) ≡ cond l (suc (times lf xs)) (times lf xs)
+        → length (cond l (([] ∷ []) ∷ rows xs) (cond p (parted (rows xs)) (grown x (rows xs))))
+        ≡ cond l (suc (times lf xs)) (times lf xs)
     go true p ih = ap suc ih
     go false true ih = parted-many (rows xs) ∙ ih
     go false false ih = grown-many x (rows xs) ∙ ih
@@ -50,15 +51,18 @@ times-some (x ∷ xs) (suc n) l e = go (eqb x lf) (times-some xs n (omega arith)
     go true h = omega arith
     go false h = h
 
-times-before : (t : List ℕ) (n i : ℕ) → length t ≡ suc n → getD t n 0 ≡ lf → i < length t → times lf (take i t) < times lf t
+times-before : (t : List ℕ) (n i : ℕ) → length t ≡ suc n → getD t n 0 ≡ lf → i < length t
+    → times lf (take i t) < times lf t
 unfolding times
 times-before [] n i l e h = absurd (omega arith)
 times-before (x ∷ xs) n zero l e h = times-some (x ∷ xs) n l e
 times-before (x ∷ xs) zero (suc i) l e h = absurd (omega arith)
-times-before (x ∷ xs) (suc n) (suc i) l e h = go (eqb x lf) (times-before xs n i (omega arith) e (omega arith))
+times-before (x ∷ xs) (suc n) (suc i) l e h = go (eqb x lf)
+    (times-before xs n i (omega arith) e (omega arith))
   where
     go : (b : Bool) → times lf (take i xs) < times lf xs
-        → cond b (suc (times lf (take i xs))) (times lf (take i xs)) < cond b (suc (times lf xs)) (times lf xs)
+        → cond b (suc (times lf (take i xs))) (times lf (take i xs))
+        < cond b (suc (times lf xs)) (times lf xs)
     go true h = omega arith
     go false h = h
 
@@ -74,7 +78,10 @@ module _ (t : List ℕ) where
 
     pub count-ended : lineCount t ≡ times lf t
     unfolding lineCount
-    count-ended = rw (ne-eqb (length t) 0 (λ e. omega (arith, not-empty)), eq-eqb (getD t (length t - 1) 0) lf ended)
+    count-ended = rw (
+      ne-eqb (length t) 0 (λ e. omega (arith, not-empty)),
+      eq-eqb (getD t (length t - 1) 0) lf ended,
+    )
 
     -- the line of a byte is one of the lines
     pub line-within : (i : ℕ) → i < length t → lineOf t i ≤ lineCount t

@@ -56,7 +56,13 @@ abbrev pub bare : Input → Input
 bare i = record { owner = i .owner; name = i .name; kind = i .kind; source = 0; line = 0 }
 
 abbrev pub inputBy : Draft → Row → Input
-inputBy d f = record { owner = unitNamed d (word f 1); name = word f 2; kind = kindOf (word f 3); source = 0; line = 0 }
+inputBy d f = record {
+  owner = unitNamed d (word f 1);
+  name = word f 2;
+  kind = kindOf (word f 3);
+  source = 0;
+  line = 0;
+}
 
 abbrev pub feedBy : Draft → Row → Feed
 feedBy d f = record {
@@ -84,7 +90,8 @@ outputs-run (goes-on (takes-feed w u x y) r) = outputs-run r ∙ no-more _ _ _ _
 outputs-run (goes-on (takes-join w u y v x s) r) = outputs-run r ∙ no-more _ _ _ _ _ _ w tt
 
 pub output-stays : {d last : Draft} {k : ℕ} {fs : List Row} → Runs d k fs last
-    → (u : ℕ) (w : List ℕ) → outputNamed d u w < length (d .outputs) → outputNamed d u w ≡ outputNamed last u w
+    → (u : ℕ) (w : List ℕ) → outputNamed d u w < length (d .outputs)
+    → outputNamed d u w ≡ outputNamed last u w
 unfolding outputNamed onward
 output-stays {d} r u w h =
     rw (outputs-run r) (sym (place-front (λ o. eqb (o .owner) u && same (o .name) w) (d .outputs) _ h))
@@ -120,8 +127,10 @@ pub input-stays : {d last : Draft} {k : ℕ} {fs : List Row} → Runs d k fs las
 unfolding onward
 input-stays {d} {last} r u w h =
     let p : Input → Bool = λ i. eqb (i .owner) u && same (i .name) w in
-    let b : place p (map bare (d .inputs)) < length (map bare (d .inputs)) = rw (named-bare d u w, length-map (d .inputs) bare) h in
-    sym (named-bare d u w) ∙ sym (place-front p (map bare (d .inputs)) _ b) ∙ ap (place p) (sym (inputs-run r)) ∙ named-bare last u w
+    let b : place p (map bare (d .inputs)) < length (map bare (d .inputs)) =
+    rw (named-bare d u w, length-map (d .inputs) bare) h in
+    sym (named-bare d u w) ∙ sym (place-front p (map bare (d .inputs)) _ b)
+    ∙ ap (place p) (sym (inputs-run r)) ∙ named-bare last u w
 
 pub feeds-run : {d last : Draft} {k : ℕ} {fs : List Row} → Runs d k fs last
     → last .feeds ≡ onward (ascii "feed") (feedBy last) (d .feeds) fs
@@ -132,5 +141,6 @@ feeds-run (goes-on (takes-output w u n) r) = feeds-run r ∙ no-more _ _ _ _ _ _
 feeds-run (goes-on (takes-input w u n) r) = feeds-run r ∙ no-more _ _ _ _ _ _ w tt
 feeds-run {d} (goes-on (takes-feed w u x y) r) =
     let t = goes-on (takes-feed w u x y) r in
-    feeds-run r ∙ one-more _ _ (d .feeds) _ _ _ w (rw (input-stays t _ _ x, output-stays t _ _ y, unit-stays t _ u))
+    feeds-run r ∙ one-more _ _ (d .feeds) _ _ _ w
+    (rw (input-stays t _ _ x, output-stays t _ _ y, unit-stays t _ u))
 feeds-run (goes-on (takes-join w u y v x s) r) = feeds-run r ∙ no-more _ _ _ _ _ _ w tt

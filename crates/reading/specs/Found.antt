@@ -1,4 +1,4 @@
--- Searching a list by place: in a longer list, through a map, by another test; and lists in which each is found at its place.
+-- Searching a list by place; lists in which each is found at its own place.
 use Prim.Native.Nat.{ℕ, suc, _+_, _<_, _≤_}
 use mathlib.Core.Path.{_≡_, refl, ap, _∙_}
 use mathlib.Core.Bool.{Bool, true, false, cond}
@@ -26,28 +26,33 @@ module _ {A : Type 0} (p : A → Bool) where
   place-front (x ∷ xs) ys h = go (p x) (place-front xs ys) h
     where
       go : (b : Bool) → (place p xs < length xs → place p (xs ++ ys) ≡ place p xs)
-          → cond b 0 (suc (place p xs)) < suc (length xs) → cond b 0 (suc (place p (xs ++ ys))) ≡ cond b 0 (suc (place p xs))
+          → cond b 0 (suc (place p xs)) < suc (length xs)
+          → cond b 0 (suc (place p (xs ++ ys))) ≡ cond b 0 (suc (place p xs))
       go true ih h = refl
       go false ih h = ap suc (ih (omega arith))
 
   -- what is not found in the front is found behind it
-  pub place-behind : (xs : List A) (y : A) → length xs ≤ place p xs → p y ≡ true → place p (xs ++ (y ∷ [])) ≡ length xs
+  pub place-behind : (xs : List A) (y : A) → length xs ≤ place p xs → p y ≡ true
+      → place p (xs ++ (y ∷ [])) ≡ length xs
   unfolding place
   place-behind [] y h e = rw e
   place-behind (x ∷ xs) y h e = go (p x) (λ n. place-behind xs y n e) h
     where
       go : (b : Bool) → (length xs ≤ place p xs → place p (xs ++ (y ∷ [])) ≡ length xs)
-          → suc (length xs) ≤ cond b 0 (suc (place p xs)) → cond b 0 (suc (place p (xs ++ (y ∷ [])))) ≡ suc (length xs)
+          → suc (length xs) ≤ cond b 0 (suc (place p xs))
+          → cond b 0 (suc (place p (xs ++ (y ∷ [])))) ≡ suc (length xs)
       go true ih h = absurd (omega arith)
       go false ih h = ap suc (ih (omega arith))
 
-pub place-map : {A B : Type 0} (p : B → Bool) (f : A → B) (xs : List A) → place p (map f xs) ≡ place (λ x. p (f x)) xs
+pub place-map : {A B : Type 0} (p : B → Bool) (f : A → B) (xs : List A)
+    → place p (map f xs) ≡ place (λ x. p (f x)) xs
 unfolding place
 place-map p f [] = refl
 place-map p f (x ∷ xs) = ap (λ n. cond (p (f x)) 0 (suc n)) (place-map p f xs)
 
 -- two tests that agree at each place find the same place
-pub place-along : {A B : Type 0} (p : A → Bool) (q : B → Bool) (a : A) (b : B) (xs : List A) (ys : List B) → length xs ≡ length ys
+pub place-along : {A B : Type 0} (p : A → Bool) (q : B → Bool) (a : A) (b : B) (xs : List A) (ys : List B)
+    → length xs ≡ length ys
     → ((i : ℕ) → i < length xs → p (getD xs i a) ≡ q (getD ys i b)) → place p xs ≡ place q ys
 unfolding place
 place-along p q a b [] [] l h = refl
@@ -65,7 +70,8 @@ module _ {A : Type 0} (alike : A → A → Bool) (e : A) where
   abbrev pub Once : List A → Type 0
   Once xs = (i : ℕ) → i < length xs → place (alike (getD xs i e)) xs ≡ i
 
-  pub once-more : (xs : List A) (x : A) → Once xs → length xs ≤ place (alike x) xs → alike x x ≡ true → Once (xs ++ (x ∷ []))
+  pub once-more : (xs : List A) (x : A) → Once xs → length xs ≤ place (alike x) xs → alike x x ≡ true
+      → Once (xs ++ (x ∷ []))
   once-more xs x h n s i g =
       let q : length (xs ++ (x ∷ [])) ≡ length xs + 1 = length-append xs (x ∷ []) in
       elim (decLt i (length xs)) [

@@ -98,5 +98,6 @@ module _ (fs : List Row) where
       }
 
 -- a text that is read gives a table in line order
-pub read-in-order : (room : ℕ) (t : List ℕ) → reading room t .number ≡ 0 → InOrder (rows t) (shapeOf (reading room t .bytes))
+pub read-in-order : (room : ℕ) (t : List ℕ) → reading room t .number ≡ 0
+    → InOrder (rows t) (shapeOf (reading room t .bytes))
 read-in-order room t e = rw (read-numbered room t e) (numbered-in-order (rows t))

@@ -43,7 +43,8 @@ more-default [] a (suc i) = refl
 more-default (x ∷ xs) a zero = refl
 more-default (x ∷ xs) a (suc i) = more-default xs a i
 
-map-set : {A B : Type 0} (f : A → B) (xs : List A) (i : ℕ) (a : A) → map f (set xs i a) ≡ set (map f xs) i (f a)
+map-set : {A B : Type 0} (f : A → B) (xs : List A) (i : ℕ) (a : A)
+    → map f (set xs i a) ≡ set (map f xs) i (f a)
 map-set f [] i a = refl
 map-set f (x ∷ xs) zero a = refl
 map-set f (x ∷ xs) (suc i) a = ap (λ r. f x ∷ r) (map-set f xs i a)
@@ -87,7 +88,8 @@ unfolding orBy sourceBy
 or-other s d x f fs e n = rw (first-more (ascii "join") f fs e, ne-eqb (joinInput d f) x n)
 
 -- ---- the sources after an input more, and after a join
-pub source-more : (d : Draft) (i : Input) → i .source ≡ unjoined → (x : ℕ) → sourceAt (addInput d i) x ≡ sourceAt d x
+pub source-more : (d : Draft) (i : Input) → i .source ≡ unjoined → (x : ℕ)
+    → sourceAt (addInput d i) x ≡ sourceAt d x
 unfolding addInput
 source-more d i e x =
     ap (λ l. getD l x 255) (map-append (λ (i : Input). i .source) (d .inputs) (i ∷ []))
@@ -102,7 +104,8 @@ module _ (d : Draft) (a y : ℕ) where
   join-source x = ap (λ l. getD l x 255) (map-set (λ (i : Input). i .source) (d .inputs) a _)
 
   pub source-joined : a < length (d .inputs) → sourceAt (addJoin d a y) a ≡ y
-  source-joined h = join-source a ∙ getD-set-same were a y 255 (rw (length-map (d .inputs) (λ (i : Input). i .source)) h)
+  source-joined h = join-source a
+      ∙ getD-set-same were a y 255 (rw (length-map (d .inputs) (λ (i : Input). i .source)) h)
 
   pub source-other : (x : ℕ) → (x ≡ a → ⊥) → sourceAt (addJoin d a y) x ≡ sourceAt d x
   source-other x n = join-source x ∙ getD-set-other were a x y 255 n
@@ -116,9 +119,11 @@ module _ (d : Draft) (a y : ℕ) where
       → joinOutput last f ≡ y → a < length (d .inputs) → sourceOf d a ≡ unjoined → y < unjoined
       → (x : ℕ) → orBy (sourceAt (addJoin d a y) x) last x fs ≡ orBy (sourceAt d x) last x (f ∷ fs)
   or-join last f fs w p q h e l x = elim (ℕ-discrete x a) [
-    | yes z ↦ rw z (ap (λ s. orBy s last a fs) (source-joined h) ∙ or-joins last a y f fs w p q (λ z. omega arith)
+    | yes z ↦ rw z (ap (λ s. orBy s last a fs) (source-joined h)
+        ∙ or-joins last a y f fs w p q (λ z. omega arith)
         ∙ ap (λ s. orBy s last a (f ∷ fs)) (sym (source-free h e)))
-    | no z ↦ ap (λ s. orBy s last x fs) (source-other x z) ∙ or-other (sourceAt d x) last x f fs w (λ i. z (sym i ∙ p))
+    | no z ↦ ap (λ s. orBy s last x fs) (source-other x z)
+        ∙ or-other (sourceAt d x) last x f fs w (λ i. z (sym i ∙ p))
   ]
 
 -- ---- a join line's input and output keep their numbers
@@ -126,12 +131,14 @@ module _ {d last : Draft} {k : ℕ} {fs : List Row} (r : Runs d k fs last) (f : 
   pub join-input-stays : unitNamed d (word f 3) < length (d .units) → joinInput d f < length (d .inputs)
       → joinInput last f ≡ joinInput d f
   join-input-stays u x =
-      ap (λ u. inputNamed last u (word f 4)) (sym (unit-stays r (word f 3) u)) ∙ sym (input-stays r _ (word f 4) x)
+      ap (λ u. inputNamed last u (word f 4)) (sym (unit-stays r (word f 3) u))
+      ∙ sym (input-stays r _ (word f 4) x)
 
   join-output-stays : unitNamed d (word f 1) < length (d .units) → joinOutput d f < length (d .outputs)
       → joinOutput last f ≡ joinOutput d f
   join-output-stays u y =
-      ap (λ u. outputNamed last u (word f 2)) (sym (unit-stays r (word f 1) u)) ∙ sym (output-stays r _ (word f 2) y)
+      ap (λ u. outputNamed last u (word f 2)) (sym (unit-stays r (word f 1) u))
+      ∙ sym (output-stays r _ (word f 2) y)
 
 pub outputs-more : {d last : Draft} {k : ℕ} {fs : List Row} → Runs d k fs last
     → length (d .outputs) ≤ length (last .outputs)
@@ -150,4 +157,5 @@ sources-run (goes-on (takes-feed w u y z) r) m x = sources-run r m x ∙ or-none
 sources-run {d} (goes-on {last = last} {f = f} {fs = fs} (takes-join w u y v z s) r) m x =
     let t = goes-on (takes-join w u y v z s) r in
     sources-run r m x
-    ∙ or-join d _ _ last f fs w (join-input-stays t f v z) (join-output-stays t f u y) z s (omega (arith, outputs-more t)) x
+    ∙ or-join d _ _ last f fs w (join-input-stays t f v z) (join-output-stays t f u y) z s
+    (omega (arith, outputs-more t)) x

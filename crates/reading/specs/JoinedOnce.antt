@@ -51,7 +51,8 @@ apart-first : (d : Draft) → Apart d (linesOf (ascii "join") [])
 unfolding Apart linesOf
 apart-first d i j h l e = absurd (omega arith)
 
-apart-more : (d : Draft) (f : Row) (js : List Row) → NoneJoins d (joinInput d f) js → Apart d js → Apart d (f ∷ js)
+apart-more : (d : Draft) (f : Row) (js : List Row) → NoneJoins d (joinInput d f) js → Apart d js
+    → Apart d (f ∷ js)
 unfolding Apart NoneJoins
 apart-more d f js n a i zero h l e = absurd (omega arith)
 apart-more d f js n a zero (suc j) h l e = n j (omega arith) (sym e)
@@ -71,5 +72,6 @@ joins-apart {d} (goes-on {last = last} {f = f} {fs = fs} (takes-join w u y v z s
     let low : joinOutput d f < 255 = omega (arith, outputs-more t) in
     rw (first-more (ascii "join") _ _ w)
     (apart-more last f _
-    (rw j (not-again r (joinInput d f) (λ e. omega (arith, sym (source-joined d (joinInput d f) (joinOutput d f) z) ∙ e))))
+    (rw j (not-again r (joinInput d f)
+    (λ e. omega (arith, sym (source-joined d (joinInput d f) (joinOutput d f) z) ∙ e))))
     (joins-apart r m))

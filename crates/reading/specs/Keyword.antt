@@ -26,7 +26,8 @@ by-keyword P d k f u o i c j n = go (is _) refl (is _) refl (is _) refl (is _) r
     opened : (w : List ℕ) → is w ≡ true → word f 0 ≡ w
     opened w e = same-true (word f 0) w (holds _ e)
 
-    go : (a : Bool) → is (ascii "unit") ≡ a → (b : Bool) → is (ascii "out") ≡ b → (e : Bool) → is (ascii "in") ≡ e
+    go : (a : Bool) → is (ascii "unit") ≡ a → (b : Bool) → is (ascii "out") ≡ b → (e : Bool)
+        → is (ascii "in") ≡ e
         → (g : Bool) → is (ascii "feed") ≡ g → (h : Bool) → is (ascii "join") ≡ h
         → P (cond a (unitLine d f) (cond b (outLine d f)
         (cond e (inLine d k f) (cond g (feedLine d f) (cond h (joinLine d f) (refused 24 d))))))

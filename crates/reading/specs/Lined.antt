@@ -52,7 +52,10 @@ module _ (room : ℕ) (t : List ℕ) where
     within = omega arith;
     last = λ e. absurd (other 21 (omega arith) (omega arith) e);
     byte = λ e. absurd (other 22 (omega arith) (omega arith) e);
-    first = λ e. absurd (elim e [ inl e ↦ other 23 (omega arith) (omega arith) e | inr e ↦ other 33 (omega arith) (omega arith) e ]);
+    first = λ e. absurd (elim e [
+      | inl e ↦ other 23 (omega arith) (omega arith) e
+      | inr e ↦ other 33 (omega arith) (omega arith) e
+    ]);
     loose = λ e. absurd (other 31 (omega arith) (omega arith) e);
     refused = λ a b c. absurd (elim s [ inl e ↦ omega arith | inr e ↦ omega arith ]);
   }
@@ -63,7 +66,8 @@ module _ (room : ℕ) (t : List ℕ) where
   lined-one : (n : ℕ) → (n ≡ 23) ⊎ (n ≡ 33) → 1 ≤ lineCount t → Lined t (stopped n 1)
   unfolding stopped
   lined-one n s h = record {
-    none = some n 1 (other 20 (omega arith) (omega arith)) (other 34 (omega arith) (omega arith)) (omega arith);
+    none = some n 1 (other 20 (omega arith) (omega arith)) (other 34 (omega arith) (omega arith))
+        (omega arith);
     within = h;
     last = λ e. absurd (other 21 (omega arith) (omega arith) e);
     byte = λ e. absurd (other 22 (omega arith) (omega arith) e);
@@ -99,7 +103,8 @@ module _ (room : ℕ) (t : List ℕ) where
     refused = λ a b c. absurd (omega arith);
   }
 
-  lined-loose : (k : ℕ) → k ≡ suc (place (isLoose (rows t)) (rows t)) → k ≤ lineCount t → Lined t (stopped 31 k)
+  lined-loose : (k : ℕ) → k ≡ suc (place (isLoose (rows t)) (rows t)) → k ≤ lineCount t
+      → Lined t (stopped 31 k)
   unfolding stopped
   lined-loose k e h = record {
     none = some 31 k (omega arith) (omega arith) (omega arith);
@@ -131,7 +136,8 @@ module _ (room : ℕ) (t : List ℕ) where
     many : lineCount t ≡ suc (length fs)
     many = count-rows t ended ∙ ap length lines
 
-    lined-end : (last : Draft) (r : Reading) → Runs blank 2 fs last → Proper last → Closes room last r → (r .number ≡ 0 → ⊥) → Lined t r
+    lined-end : (last : Draft) (r : Reading) → Runs blank 2 fs last → Proper last → Closes room last r
+        → (r .number ≡ 0 → ⊥) → Lined t r
     unfolding written
     lined-end last r c g (closes-33 z) n = lined-one 33 (inr refl) (count-some t ended)
     lined-end last r c g (closes-31 z) n =
@@ -152,7 +158,8 @@ module _ (room : ℕ) (t : List ℕ) where
   unfolding lineOf
   lined r reads-20 n = lined-none 20 (inl refl)
   lined r (reads-21 s l) n = lined-last (lineOf t (length t)) (omega arith) (last-line t s l)
-  lined r (reads-22 l h) n = lined-byte (lineOf t (firstBad t)) (omega arith) (line-within t l (firstBad t) h) refl
+  lined r (reads-22 l h) n = lined-byte (lineOf t (firstBad t)) (omega arith)
+      (line-within t l (firstBad t) h) refl
   lined r (reads-23 l) n = lined-one 23 (inl refl) (count-some t l)
   lined r (reads-lines s first fs l p o c) n = lined-come l first fs p o s c n
 

@@ -41,7 +41,8 @@ module _ (ls : List ℕ) (k : ℕ) where
   lines-one : (f : Row) (fs : List Row) → word f 0 ≡ ascii "in"
       → withLines (ls ++ (k ∷ [])) (suc k) fs ≡ withLines ls k (f ∷ fs)
   unfolding withLines lineNumbers opens
-  lines-one f fs e = rw (e, is-true (same (ascii "in") (ascii "in")) (same-self (ascii "in"))) (append-snoc ls k (lineNumbers (ascii "in") (suc k) fs))
+  lines-one f fs e = rw (e, is-true (same (ascii "in") (ascii "in")) (same-self (ascii "in")))
+      (append-snoc ls k (lineNumbers (ascii "in") (suc k) fs))
 
   lines-none : (f : Row) (fs : List Row) (v : List ℕ) → word f 0 ≡ v → T (not (same v (ascii "in")))
       → withLines ls (suc k) fs ≡ withLines ls k (f ∷ fs)
@@ -58,14 +59,16 @@ lines-run ends = lines-first _ _
 lines-run (goes-on (takes-unit w n) r) = lines-run r ∙ lines-none _ _ _ _ _ w tt
 lines-run (goes-on (takes-output w u n) r) = lines-run r ∙ lines-none _ _ _ _ _ w tt
 lines-run {d} (goes-on {k = k} {fs = fs} (takes-input w u n) r) =
-    lines-run r ∙ ap (λ l. withLines l (suc k) fs) (map-append lineOf (d .inputs) _) ∙ lines-one (map lineOf (d .inputs)) k _ fs w
+    lines-run r ∙ ap (λ l. withLines l (suc k) fs) (map-append lineOf (d .inputs) _)
+    ∙ lines-one (map lineOf (d .inputs)) k _ fs w
 lines-run (goes-on (takes-feed w u x y) r) = lines-run r ∙ lines-none _ _ _ _ _ w tt
 lines-run {d} (goes-on {k = k} {fs = fs} (takes-join w u y v x s) r) =
     lines-run r ∙ ap (λ l. withLines l (suc k) fs) (map-set-same lineOf (d .inputs) _ _ noInput refl)
     ∙ lines-none _ _ _ _ _ w tt
 
 -- the first of the lines that open with w and pass is the first line that opens with w and passes
-first-line : (w : List ℕ) (p : Row → Bool) (k : ℕ) (fs : List Row) → place p (linesOf w fs) < length (linesOf w fs)
+first-line : (w : List ℕ) (p : Row → Bool) (k : ℕ) (fs : List Row)
+    → place p (linesOf w fs) < length (linesOf w fs)
     → (getD (lineNumbers w k fs) (place p (linesOf w fs)) 0 ≡ k + place (λ f. opens w f && p f) fs)
     × (place (λ f. opens w f && p f) fs < length fs)
 unfolding lineNumbers linesOf place
@@ -81,21 +84,27 @@ first-line w p k (f ∷ fs) h = go (opens w f) (first-line w p (suc k) fs) h
     among : ℕ
     among = place p (linesOf w fs)
 
-    opened : (b : Bool) → (among < length (linesOf w fs) → (getD numbers among 0 ≡ suc k + rest) × (rest < length fs))
+    opened : (b : Bool) → (among < length (linesOf w fs)
+        → (getD numbers among 0 ≡ suc k + rest) × (rest < length fs))
         → cond b 0 (suc among) < suc (length (linesOf w fs))
-        → (getD (k ∷ numbers) (cond b 0 (suc among)) 0 ≡ k + cond b 0 (suc rest)) × (cond b 0 (suc rest) < suc (length fs))
+        → (getD (k ∷ numbers) (cond b 0 (suc among)) 0 ≡ k + cond b 0 (suc rest))
+        × (cond b 0 (suc rest) < suc (length fs))
     opened true ih h = (omega arith, omega arith)
     opened false ih h = let (e, l) = ih (omega arith) in (omega arith, omega arith)
 
-    go : (a : Bool) → (among < length (linesOf w fs) → (getD numbers among 0 ≡ suc k + rest) × (rest < length fs))
-        → place p (cond a (f ∷ linesOf w fs) (linesOf w fs)) < length (cond a (f ∷ linesOf w fs) (linesOf w fs))
-        → (getD (cond a (k ∷ numbers) numbers) (place p (cond a (f ∷ linesOf w fs) (linesOf w fs))) 0 ≡ k + cond (a && p f) 0 (suc rest))
+    go : (a : Bool) → (among < length (linesOf w fs)
+        → (getD numbers among 0 ≡ suc k + rest) × (rest < length fs))
+        → place p (cond a (f ∷ linesOf w fs) (linesOf w fs))
+        < length (cond a (f ∷ linesOf w fs) (linesOf w fs))
+        → (getD (cond a (k ∷ numbers) numbers) (place p (cond a (f ∷ linesOf w fs) (linesOf w fs))) 0
+        ≡ k + cond (a && p f) 0 (suc rest))
         × (cond (a && p f) 0 (suc rest) < suc (length fs))
     go true ih h = opened (p f) ih h
     go false ih h = let (e, l) = ih h in (omega arith, omega arith)
 
 leb-suc : (a b : ℕ) → leb a b ≡ leb (suc a) (suc b)
-leb-suc a b = same-test (leb a b) (leb (suc a) (suc b)) (λ t. le→leb (suc a) (suc b) (omega (arith, leb→le a b t)))
+leb-suc a b = same-test (leb a b) (leb (suc a) (suc b))
+    (λ t. le→leb (suc a) (suc b) (omega (arith, leb→le a b t)))
     (λ t. le→leb a b (omega (arith, leb→le (suc a) (suc b) t)))
 
 -- an input has no source exactly when no line joins it
@@ -108,7 +117,8 @@ by-none d x (f ∷ fs) low = go (eqb (joinInput d f) x) (by-none d x fs low)
     go : (b : Bool) → eqb (sourceBy d x fs) unjoined ≡ leb (length fs) (place (λ f. eqb (joinInput d f) x) fs)
         → eqb (cond b (joinOutput d f) (sourceBy d x fs)) unjoined
         ≡ leb (suc (length fs)) (cond b 0 (suc (place (λ f. eqb (joinInput d f) x) fs)))
-    go true ih = ne-eqb (joinOutput d f) 255 (λ e. omega (arith, low f)) ∙ sym (lt-leb (suc (length fs)) 0 (omega arith))
+    go true ih = ne-eqb (joinOutput d f) 255 (λ e. omega (arith, low f))
+        ∙ sym (lt-leb (suc (length fs)) 0 (omega arith))
     go false ih = ih ∙ leb-suc (length fs) (place (λ f. eqb (joinInput d f) x) fs)
 
 module _ (d : Draft) (fs : List Row) (r : Runs blank 2 fs d) (g : Proper d) where
@@ -120,20 +130,27 @@ module _ (d : Draft) (fs : List Row) (r : Runs blank 2 fs d) (g : Proper d) wher
 
   low : (f : Row) → joinOutput d f < unjoined
   unfolding outputNamed
-  low f = omega (arith, place-most (λ o. eqb (o .owner) (unitNamed d (word f 1)) && same (o .name) (word f 2)) (d .outputs), g .outputs-most)
+  low f = omega (
+    arith,
+    place-most (λ o. eqb (o .owner) (unitNamed d (word f 1)) && same (o .name) (word f 2)) (d .outputs),
+    g .outputs-most,
+  )
 
   -- the first input that is not joined is declared by the first `in` line whose input no line joins
   loose-place : loose d ≡ place free inputLines
-  unfolding loose joinPlace
-  loose-place = place-along (λ i. eqb (i .source) unjoined) free noInput [] (d .inputs) inputLines (inputs-count d fs r g)
+  unfolding loose
+  loose-place = place-along (λ i. eqb (i .source) unjoined) free noInput [] (d .inputs) inputLines
+      (inputs-count d fs r g)
       (λ x h.
       let k : x < length inputLines = rw (← inputs-count d fs r g) h in
-      ap (λ s. eqb s 255) (sym (map-in (λ (i : Input). i .source) noInput 255 (d .inputs) x h) ∙ source-by d fs r g x)
+      ap (λ s. eqb s 255) (sym (map-in (λ (i : Input). i .source) noInput 255 (d .inputs) x h)
+      ∙ source-by d fs r g x)
       ∙ by-none d x (linesOf (ascii "join") fs) low
       ∙ ap (leb (length (linesOf (ascii "join") fs))) (join-place d fs r g x k))
 
   pub loose-line : loose d < length (d .inputs)
-      → (getD (d .inputs) (loose d) noInput .line ≡ 2 + place (isLoose fs) fs) × (place (isLoose fs) fs < length fs)
+      → (getD (d .inputs) (loose d) noInput .line ≡ 2 + place (isLoose fs) fs)
+      × (place (isLoose fs) fs < length fs)
   unfolding isLoose withLines blank
   loose-line h =
       let l : place free inputLines < length inputLines = rw (← loose-place, ← inputs-count d fs r g) h in

@@ -60,19 +60,24 @@ module _ (d : Draft) (fs : List Row) (r : Runs blank 2 fs d) (g : Proper d) wher
   name-of w h = same-true _ w (place-is (λ n. same n w) [] (d .units) .passes h)
 
   -- one number, one name
-  owner-alike : (a v : List ℕ) → unitNamed d a < length (d .units) → eqb (unitNamed d a) (unitNamed d v) ≡ same a v
+  owner-alike : (a v : List ℕ) → unitNamed d a < length (d .units)
+      → eqb (unitNamed d a) (unitNamed d v) ≡ same a v
   owner-alike a v h = same-test _ _
       (λ t.
       let e : unitNamed d a ≡ unitNamed d v = eqb→eq _ _ t in
-      let n : a ≡ v = sym (name-of a h) ∙ ap (λ u. getD (d .units) u []) e ∙ name-of v (subst (λ u. u < length (d .units)) e h) in
+      let n : a ≡ v = sym (name-of a h) ∙ ap (λ u. getD (d .units) u []) e
+      ∙ name-of v (subst (λ u. u < length (d .units)) e h) in
       rw n (same-self v))
       (λ t. eq-true (unitNamed d a) (unitNamed d v) (ap (unitNamed d) (same-true a v t)))
 
   -- ---- a port's number
-  output-at-place : (y : ℕ) → y < length outputLines → getD (d .outputs) y noOutput ≡ outputBy d (getD outputLines y [])
-  output-at-place y h = ap (λ l. getD l y noOutput) outputs-are ∙ map-in (outputBy d) [] noOutput outputLines y h
+  output-at-place : (y : ℕ) → y < length outputLines
+      → getD (d .outputs) y noOutput ≡ outputBy d (getD outputLines y [])
+  output-at-place y h = ap (λ l. getD l y noOutput) outputs-are
+      ∙ map-in (outputBy d) [] noOutput outputLines y h
 
-  input-at-place : (x : ℕ) → x < length inputLines → getD (map bare (d .inputs)) x noInput ≡ inputBy d (getD inputLines x [])
+  input-at-place : (x : ℕ) → x < length inputLines
+      → getD (map bare (d .inputs)) x noInput ≡ inputBy d (getD inputLines x [])
   input-at-place x h = ap (λ l. getD l x noInput) inputs-are ∙ map-in (inputBy d) [] noInput inputLines x h
 
   pub outputs-count : length (d .outputs) ≡ length outputLines
@@ -81,7 +86,8 @@ module _ (d : Draft) (fs : List Row) (r : Runs blank 2 fs d) (g : Proper d) wher
   pub inputs-count : length (d .inputs) ≡ length inputLines
   inputs-count = sym (length-map (d .inputs) bare) ∙ ap length inputs-are ∙ length-map inputLines (inputBy d)
 
-  output-known : (y : ℕ) → y < length outputLines → unitNamed d (word (getD outputLines y []) 1) < length (d .units)
+  output-known : (y : ℕ) → y < length outputLines
+      → unitNamed d (word (getD outputLines y []) 1) < length (d .units)
   output-known y h =
       subst (λ (z : Output). z .owner < length (d .units)) (output-at-place y h)
       (g .output-owned y (rw outputs-count h))
@@ -92,9 +98,11 @@ module _ (d : Draft) (fs : List Row) (r : Runs blank 2 fs d) (g : Proper d) wher
       let p : Output → Bool = λ o. eqb (o .owner) (unitNamed d v) && same (o .name) w in
       ap (place p) outputs-are ∙ place-map p (outputBy d) outputLines
       ∙ place-alike _ _ [] outputLines
-      (λ i h. ap (λ b. b && same (word (getD outputLines i []) 2) w) (owner-alike (word (getD outputLines i []) 1) v (output-known i h)))
+      (λ i h. ap (λ b. b && same (word (getD outputLines i []) 2) w)
+      (owner-alike (word (getD outputLines i []) 1) v (output-known i h)))
 
-  input-known : (x : ℕ) → x < length inputLines → unitNamed d (word (getD inputLines x []) 1) < length (d .units)
+  input-known : (x : ℕ) → x < length inputLines
+      → unitNamed d (word (getD inputLines x []) 1) < length (d .units)
   input-known x h =
       let q : x < length (d .inputs) = rw inputs-count h in
       subst (λ (z : Input). z .owner < length (d .units))
@@ -106,7 +114,8 @@ module _ (d : Draft) (fs : List Row) (r : Runs blank 2 fs d) (g : Proper d) wher
       let p : Input → Bool = λ i. eqb (i .owner) (unitNamed d v) && same (i .name) w in
       sym (named-bare d (unitNamed d v) w) ∙ ap (place p) inputs-are ∙ place-map p (inputBy d) inputLines
       ∙ place-alike _ _ [] inputLines
-      (λ i h. ap (λ b. b && same (word (getD inputLines i []) 2) w) (owner-alike (word (getD inputLines i []) 1) v (input-known i h)))
+      (λ i h. ap (λ b. b && same (word (getD inputLines i []) 2) w)
+      (owner-alike (word (getD inputLines i []) 1) v (input-known i h)))
 
   pub feed-named : (f : Row) → feedBy d f ≡ feedNumbers fs f
   unfolding feedNumbers

@@ -19,19 +19,24 @@ use Rattle.reading.specs.First.{below, unit-below, output-below, input-b
 use Rattle.reading.specs.Named.{units-are, outputs-are, inputs-are, feeds-are, outputs-count, inputs-count, unit-named, feed-named, unit-at, output-at, input-at}
 use Rattle.reading.specs.Sourced.{sources-are, join-at}
 
-module _ (d : Draft) (fs : List Row) (r : Runs blank 2 fs d) (g : Proper d) (all : length (d .inputs) ≤ loose d) where
-  of-outputs : map (λ (o : Output). o .owner) (d .outputs) ≡ map (λ f. unitNumber fs (word f 1)) (linesOf (ascii "out") fs)
+module _ (d : Draft) (fs : List Row) (r : Runs blank 2 fs d) (g : Proper d)
+    (all : length (d .inputs) ≤ loose d) where
+  of-outputs : map (λ (o : Output). o .owner) (d .outputs)
+      ≡ map (λ f. unitNumber fs (word f 1)) (linesOf (ascii "out") fs)
   of-outputs =
-      ap (map (λ (o : Output). o .owner)) (outputs-are d fs r g) ∙ map-map (λ (o : Output). o .owner) (outputBy d) (linesOf (ascii "out") fs)
+      ap (map (λ (o : Output). o .owner)) (outputs-are d fs r g)
+      ∙ map-map (λ (o : Output). o .owner) (outputBy d) (linesOf (ascii "out") fs)
       ∙ ap (λ h. map h (linesOf (ascii "out") fs)) (fun-ext (λ f. unit-named d fs r g (word f 1)))
 
   of-inputs : {A : Type 0} (h : Input → A) → ((i : Input) → h i ≡ h (bare i))
       → map h (d .inputs) ≡ map (λ f. h (inputBy d f)) (linesOf (ascii "in") fs)
   of-inputs h e =
-      ap (λ k. map k (d .inputs)) (fun-ext e) ∙ sym (map-map h bare (d .inputs)) ∙ ap (map h) (inputs-are d fs r g)
+      ap (λ k. map k (d .inputs)) (fun-ext e) ∙ sym (map-map h bare (d .inputs))
+      ∙ ap (map h) (inputs-are d fs r g)
       ∙ map-map h (inputBy d) (linesOf (ascii "in") fs)
 
-  of-owners : map (λ (i : Input). i .owner) (d .inputs) ≡ map (λ f. unitNumber fs (word f 1)) (linesOf (ascii "in") fs)
+  of-owners : map (λ (i : Input). i .owner) (d .inputs)
+      ≡ map (λ f. unitNumber fs (word f 1)) (linesOf (ascii "in") fs)
   of-owners =
       of-inputs (λ i. i .owner) (λ i. refl)
       ∙ ap (λ h. map h (linesOf (ascii "in") fs)) (fun-ext (λ f. unit-named d fs r g (word f 1)))
@@ -69,7 +74,8 @@ module _ (room : ℕ) (t : List ℕ) (success : reading room t .number ≡ 0) wh
       ∙ ap numbered (sym (read .lines))
 
   -- each `unit` line declares the unit whose number is its place among them: no name stands twice
-  pub unit-numbered : (u : ℕ) → u < length (linesOf (ascii "unit") (rows t)) → let f = getD (linesOf (ascii "unit") (rows t)) u [] in
+  pub unit-numbered : (u : ℕ) → u < length (linesOf (ascii "unit") (rows t))
+      → let f = getD (linesOf (ascii "unit") (rows t)) u [] in
       unitNumber (rows t) (word f 1) ≡ u
   unfolding same
   unit-numbered = rw (
@@ -79,7 +85,8 @@ module _ (room : ℕ) (t : List ℕ) (success : reading room t .number ≡ 0) wh
   ) (unit-at (read .draft) (read .below) (read .run) (read .proper))
 
   -- so with the `out` lines and the outputs of a unit
-  pub output-numbered : (y : ℕ) → y < length (linesOf (ascii "out") (rows t)) → let f = getD (linesOf (ascii "out") (rows t)) y [] in
+  pub output-numbered : (y : ℕ) → y < length (linesOf (ascii "out") (rows t))
+      → let f = getD (linesOf (ascii "out") (rows t)) y [] in
       outputNumber (rows t) (word f 1) (word f 2) ≡ y
   unfolding same
   output-numbered = rw (
@@ -89,7 +96,8 @@ module _ (room : ℕ) (t : List ℕ) (success : reading room t .number ≡ 0) wh
   ) (output-at (read .draft) (read .below) (read .run) (read .proper))
 
   -- and with the `in` lines and the inputs of a unit
-  pub input-numbered : (x : ℕ) → x < length (linesOf (ascii "in") (rows t)) → let f = getD (linesOf (ascii "in") (rows t)) x [] in
+  pub input-numbered : (x : ℕ) → x < length (linesOf (ascii "in") (rows t))
+      → let f = getD (linesOf (ascii "in") (rows t)) x [] in
       inputNumber (rows t) (word f 1) (word f 2) ≡ x
   unfolding same
   input-numbered = rw (
@@ -99,7 +107,8 @@ module _ (room : ℕ) (t : List ℕ) (success : reading room t .number ≡ 0) wh
   ) (input-at (read .draft) (read .below) (read .run) (read .proper))
 
   -- each `join` line gives the input that it names the output that it names: no input is joined twice
-  pub join-numbered : (j : ℕ) → j < length (linesOf (ascii "join") (rows t)) → let f = getD (linesOf (ascii "join") (rows t)) j [] in
+  pub join-numbered : (j : ℕ) → j < length (linesOf (ascii "join") (rows t))
+      → let f = getD (linesOf (ascii "join") (rows t)) j [] in
       sourceNumber (rows t) (word f 3) (word f 4) ≡ outputNumber (rows t) (word f 1) (word f 2)
   unfolding sourceNumber same
   join-numbered j = rw (

@@ -39,11 +39,15 @@ sourceNumber fs u n = outputNumber fs (word (joinOf fs u n) 1) (word (joinOf fs 
 
 -- f is an `in` line whose input no line joins
 unfoldable pub isLoose : List Row → Row → Bool
-isLoose fs f = opens (ascii "in") f && leb (length (linesOf (ascii "join") fs)) (joinPlace fs (word f 1) (word f 2))
+isLoose fs f =
+    opens (ascii "in") f && leb (length (linesOf (ascii "join") fs)) (joinPlace fs (word f 1) (word f 2))
 
 -- the pair that a `feed` line names
 unfoldable pub feedNumbers : List Row → Row → Feed
-feedNumbers fs f = record { input = inputNumber fs (word f 1) (word f 2); output = outputNumber fs (word f 1) (word f 3) }
+feedNumbers fs f = record {
+  input = inputNumber fs (word f 1) (word f 2);
+  output = outputNumber fs (word f 1) (word f 3);
+}
 
 -- "The packed table": counts, owners of outputs and of inputs, kinds, sources, feeds
 unfoldable pub numbered : List Row → List ℕ

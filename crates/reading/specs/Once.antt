@@ -32,7 +32,8 @@ pub units-once : {d last : Draft} {k : ℕ} {fs : List Row} → Runs d k fs last
     → Once sameName [] (d .units) → Once sameName [] (last .units)
 unfolding unitNamed addUnit addOutput addInput addFeed addJoin
 units-once ends h = h
-units-once {d} (goes-on (takes-unit w n) r) h = units-once r (once-more sameName [] (d .units) _ h n (is-true _ (same-self _)))
+units-once {d} (goes-on (takes-unit w n) r) h = units-once r
+    (once-more sameName [] (d .units) _ h n (is-true _ (same-self _)))
 units-once (goes-on (takes-output w u n) r) h = units-once r h
 units-once (goes-on (takes-input w u n) r) h = units-once r h
 units-once (goes-on (takes-feed w u x y) r) h = units-once r h
@@ -44,7 +45,8 @@ unfolding outputNamed addUnit addOutput addInput addFeed addJoin
 outputs-once ends h = h
 outputs-once (goes-on (takes-unit w n) r) h = outputs-once r h
 outputs-once {d} (goes-on {f = f} (takes-output w u n) r) h =
-    outputs-once r (once-more sameOutput noOutput (d .outputs) _ h n (self (unitNamed d (word f 1)) (word f 2)))
+    outputs-once r (once-more sameOutput noOutput (d .outputs) _ h n
+    (self (unitNamed d (word f 1)) (word f 2)))
 outputs-once (goes-on (takes-input w u n) r) h = outputs-once r h
 outputs-once (goes-on (takes-feed w u x y) r) h = outputs-once r h
 outputs-once (goes-on (takes-join w u y v x s) r) h = outputs-once r h
@@ -57,7 +59,8 @@ inputs-once (goes-on (takes-unit w n) r) h = inputs-once r h
 inputs-once (goes-on (takes-output w u n) r) h = inputs-once r h
 inputs-once {d} (goes-on {f = f} (takes-input w u n) r) h =
     inputs-once r (rw (map-append bare (d .inputs))
-    (once-more sameInput noInput (map bare (d .inputs)) _ h (rw (length-map (d .inputs) bare, named-bare d (unitNamed d (word f 1)) (word f 2)) n)
+    (once-more sameInput noInput (map bare (d .inputs)) _ h
+    (rw (length-map (d .inputs) bare, named-bare d (unitNamed d (word f 1)) (word f 2)) n)
     (self (unitNamed d (word f 1)) (word f 2))))
 inputs-once (goes-on (takes-feed w u x y) r) h = inputs-once r h
 inputs-once {d} (goes-on (takes-join w u y v x s) r) h = inputs-once r (rw (bare-join d) h)

@@ -25,7 +25,8 @@ use Rattle.reading.specs.Takes.{line-taken, Runs, ends, goes-on}
 -- the end: no unit, an input that is not joined, too little room, or the table
 pub data Closes (room : ℕ) (d : Draft) : Reading → Type 0 where
   closes-33 : length (d .units) ≡ 0 → Closes room d (stopped 33 1)
-  closes-31 : loose d < length (d .inputs) → Closes room d (stopped 31 (getD (d .inputs) (loose d) noInput .line))
+  closes-31 : loose d < length (d .inputs)
+      → Closes room d (stopped 31 (getD (d .inputs) (loose d) noInput .line))
   closes-34 : Closes room d (stopped 34 0)
   closes-0 : 0 < length (d .units) → length (d .inputs) ≤ loose d → Closes room d (written d)
 
@@ -33,23 +34,29 @@ pub data Closes (room : ℕ) (d : Draft) : Reading → Type 0 where
 pub data Comes (room : ℕ) (d : Draft) (k : ℕ) (fs : List Row) : Reading → Type 0 where
   to-line : (i j n : ℕ) → i < length fs → j ≡ k + i → place (λ n. not (eqb n 0)) (refusals d k fs) ≡ i
       → getD (refusals d k fs) i 0 ≡ n → (n ≡ 0 → ⊥) → Comes room d k fs (stopped n j)
-  to-end : (last : Draft) (r : Reading) → Runs d k fs last → Proper last → Closes room last r → Comes room d k fs r
+  to-end : (last : Draft) (r : Reading) → Runs d k fs last → Proper last → Closes room last r
+      → Comes room d k fs r
 
 -- the whole text
 pub data Reads (room : ℕ) (t : List ℕ) : Reading → Type 0 where
   reads-20 : Reads room t (stopped 20 0)
-  reads-21 : 0 < length t → (getD t (length t - 1) 0 ≡ lf → ⊥) → Reads room t (stopped 21 (lineOf t (length t)))
-  reads-22 : getD t (length t - 1) 0 ≡ lf → firstBad t < length t → Reads room t (stopped 22 (lineOf t (firstBad t)))
+  reads-21 : 0 < length t → (getD t (length t - 1) 0 ≡ lf → ⊥)
+      → Reads room t (stopped 21 (lineOf t (length t)))
+  reads-22 : getD t (length t - 1) 0 ≡ lf → firstBad t < length t
+      → Reads room t (stopped 22 (lineOf t (firstBad t)))
   reads-23 : getD t (length t - 1) 0 ≡ lf → Reads room t (stopped 23 1)
   reads-lines : (r : Reading) (first : Row) (fs : List Row) → getD t (length t - 1) 0 ≡ lf
       → rows t ≡ first ∷ fs → word first 0 ≡ ascii "cosim" → Comes room blank 2 fs r → Reads room t r
 
 pub ending-closes : (room : ℕ) (d : Draft) → Closes room d (ending room d)
 unfolding ending isInput
-ending-closes room d = go (eqb (length (d .units)) 0) refl (ltb (loose d) (length (d .inputs))) refl (ltb room (length (packed d)))
+ending-closes room d = go (eqb (length (d .units)) 0) refl (ltb (loose d) (length (d .inputs))) refl
+    (ltb room (length (packed d)))
   where
-    go : (a : Bool) → eqb (length (d .units)) 0 ≡ a → (b : Bool) → ltb (loose d) (length (d .inputs)) ≡ b → (c : Bool)
-        → Closes room d (cond a (stopped 33 1) (cond b (stopped 31 (getD (d .inputs) (loose d) noInput .line)) (cond c (stopped 34 0) (written d))))
+    go : (a : Bool) → eqb (length (d .units)) 0 ≡ a → (b : Bool) → ltb (loose d) (length (d .inputs)) ≡ b
+        → (c : Bool)
+        → Closes room d (cond a (stopped 33 1)
+        (cond b (stopped 31 (getD (d .inputs) (loose d) noInput .line)) (cond c (stopped 34 0) (written d))))
     go true p b q c = closes-33 (eqb-true _ _ p)
     go false p true q c = closes-31 (ltb-true _ _ q)
     go false p false q true = closes-34
@@ -67,14 +74,17 @@ line-above room d k f fs r t (to-line i j n h p a q z) =
     to-line (suc i) j n (omega arith) (omega arith) (rw (t, a)) q z
 line-above room d k f fs r t (to-end last s c g x) = to-end last s (goes-on (line-taken d k f t) c) g x
 
-pub lines-come : (room : ℕ) (d : Draft) (k : ℕ) (fs : List Row) → Proper d → Comes room d k fs (linesFrom room d k fs)
+pub lines-come : (room : ℕ) (d : Draft) (k : ℕ) (fs : List Row) → Proper d
+    → Comes room d k fs (linesFrom room d k fs)
 unfolding linesFrom refusals place
 lines-come room d k [] g = to-end d _ ends g (ending-closes room d)
 lines-come room d k (f ∷ fs) g =
     go (eqb (line d k f .number) 0) refl (lines-come room (line d k f .draft) (suc k) fs (line-kept d g k f))
   where
-    go : (b : Bool) → eqb (line d k f .number) 0 ≡ b → Comes room (line d k f .draft) (suc k) fs (linesFrom room (line d k f .draft) (suc k) fs)
-        → Comes room d k (f ∷ fs) (cond b (linesFrom room (line d k f .draft) (suc k) fs) (stopped (line d k f .number) k))
+    go : (b : Bool) → eqb (line d k f .number) 0 ≡ b
+        → Comes room (line d k f .draft) (suc k) fs (linesFrom room (line d k f .draft) (suc k) fs)
+        → Comes room d k (f ∷ fs)
+        (cond b (linesFrom room (line d k f .draft) (suc k) fs) (stopped (line d k f .number) k))
     go true e h = line-above room d k f fs _ (eqb-true _ _ e) h
     go false e h = to-line 0 k _ (omega arith) (omega arith) (rw e) refl (eqb-false _ _ e)
 
@@ -103,19 +113,23 @@ not-empty (x ∷ xs) e = omega arith
 pub text-reads : (room : ℕ) (t : List ℕ) → Reads room t (reading room t)
 unfolding reading lineByLine
 text-reads room t =
-    go (eqb (length t) 0 || ltb 24576 (length t)) refl (eqb (getD t (length t - 1) 0) lf) refl (ltb (firstBad t) (length t)) refl
+    go (eqb (length t) 0 || ltb 24576 (length t)) refl (eqb (getD t (length t - 1) 0) lf) refl
+    (ltb (firstBad t) (length t)) refl
     (eqb (version (getD (rows t) 0 [])) 0) refl
   where
-    go : (a : Bool) → (eqb (length t) 0 || ltb 24576 (length t)) ≡ a → (b : Bool) → eqb (getD t (length t - 1) 0) lf ≡ b → (c : Bool) → ltb (firstBad t) (length t) ≡ c
+    go : (a : Bool) → (eqb (length t) 0 || ltb 24576 (length t)) ≡ a → (b : Bool)
+        → eqb (getD t (length t - 1) 0) lf ≡ b → (c : Bool) → ltb (firstBad t) (length t) ≡ c
         → (e : Bool) → eqb (version (getD (rows t) 0 [])) 0 ≡ e
         → Reads room t (cond a (stopped 20 0) (cond (not b) (stopped 21 (lineOf t (length t)))
-        (cond c (stopped 22 (lineOf t (firstBad t))) (cond e (stopped 23 1) (linesFrom room blank 2 (drop 1 (rows t)))))))
+        (cond c (stopped 22 (lineOf t (firstBad t)))
+        (cond e (stopped 23 1) (linesFrom room blank 2 (drop 1 (rows t)))))))
     go true z b p c q e s = reads-20
     go false z false p c q e s = reads-21 (not-empty t z) (eqb-false _ _ p)
     go false z true p true q e s = reads-22 (eqb-true _ _ p) (ltb-true _ _ q)
     go false z true p false q true s = reads-23 (eqb-true _ _ p)
     go false z true p false q false s =
-        reads-lines _ (getD (rows t) 0 []) (drop 1 (rows t)) (eqb-true _ _ p) (first-some (rows t) s) (first-opens _ s)
+        reads-lines _ (getD (rows t) 0 []) (drop 1 (rows t)) (eqb-true _ _ p) (first-some (rows t) s)
+        (first-opens _ s)
         (lines-come room blank 2 (drop 1 (rows t)) blank-proper)
 
 -- where no input is loose each has a source
@@ -144,7 +158,8 @@ unfolding stopped
 text-read room t = go (reading room t) (text-reads room t)
   where
     closed : (first : Row) (fs : List Row) (last : Draft) (r : Reading) → rows t ≡ first ∷ fs
-        → word first 0 ≡ ascii "cosim" → Runs blank 2 fs last → Proper last → Closes room last r → r .number ≡ 0 → Read t r
+        → word first 0 ≡ ascii "cosim" → Runs blank 2 fs last → Proper last → Closes room last r
+        → r .number ≡ 0 → Read t r
     closed first fs last r l o c g (closes-33 z) e = absurd (omega arith)
     closed first fs last r l o c g (closes-31 z) e = absurd (omega arith)
     closed first fs last r l o c g closes-34 e = absurd (omega arith)

@@ -20,7 +20,8 @@ abbrev pub LineNumber : ℕ → Type 0
 LineNumber n = (n ≡ 0 → ⊥) → (24 ≤ n) × (n ≤ 32) × (n ≡ 31 → ⊥)
 
 module _ (d : Draft) (k : ℕ) (f : Row) where
-  or-number : (b : Bool) (n : ℕ) (o : Outcome) → LineNumber n → (b ≡ false → LineNumber (o .number)) → LineNumber (refuse b n d o .number)
+  or-number : (b : Bool) (n : ℕ) (o : Outcome) → LineNumber n → (b ≡ false → LineNumber (o .number))
+      → LineNumber (refuse b n d o .number)
   unfolding refuse refused
   or-number true n o p h = p
   or-number false n o p h = h refl
@@ -82,7 +83,8 @@ module _ (d : Draft) (k : ℕ) (f : Row) where
   pub line-number : LineNumber (line d k f .number)
   unfolding refused
   line-number = by-keyword (λ o. LineNumber (o .number)) d k f
-      (λ w. unit-number) (λ w. output-number) (λ w. input-number) (λ w. feed-number) (λ w. join-number) (omega arith)
+      (λ w. unit-number) (λ w. output-number) (λ w. input-number) (λ w. feed-number) (λ w. join-number)
+      (omega arith)
 
 pub refusals-numbers : (d : Draft) (k : ℕ) (fs : List Row) (i : ℕ) → LineNumber (getD (refusals d k fs) i 0)
 unfolding refusals

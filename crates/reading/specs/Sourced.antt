@@ -39,9 +39,11 @@ unfolding sourceBy place
 first-join d x [] n = absurd (n refl)
 first-join d x (f ∷ fs) n = go (eqb (joinInput d f) x) (first-join d x fs) n
   where
-    go : (b : Bool) → ((sourceBy d x fs ≡ unjoined → ⊥) → sourceBy d x fs ≡ joinOutput d (getD fs (place (λ f. eqb (joinInput d f) x) fs) []))
+    go : (b : Bool) → ((sourceBy d x fs ≡ unjoined → ⊥)
+        → sourceBy d x fs ≡ joinOutput d (getD fs (place (λ f. eqb (joinInput d f) x) fs) []))
         → (cond b (joinOutput d f) (sourceBy d x fs) ≡ unjoined → ⊥)
-        → cond b (joinOutput d f) (sourceBy d x fs) ≡ joinOutput d (getD (f ∷ fs) (cond b 0 (suc (place (λ f. eqb (joinInput d f) x) fs))) [])
+        → cond b (joinOutput d f) (sourceBy d x fs)
+        ≡ joinOutput d (getD (f ∷ fs) (cond b 0 (suc (place (λ f. eqb (joinInput d f) x) fs))) [])
     go true ih n = refl
     go false ih n = ih n
 
@@ -58,9 +60,11 @@ module _ (d : Draft) (fs : List Row) (r : Runs blank 2 fs d) (g : Proper d) wher
 
   -- a line joins input x when it names its unit and its name
   joins-alike : (x : ℕ) → x < length inputLines → (f : Row)
-      → eqb (joinInput d f) x ≡ same (word f 3) (word (getD inputLines x []) 1) && same (word f 4) (word (getD inputLines x []) 2)
+      → eqb (joinInput d f) x
+      ≡ same (word f 3) (word (getD inputLines x []) 1) && same (word f 4) (word (getD inputLines x []) 2)
   unfolding portNumber
-  joins-alike x h f = same-test (eqb (joinInput d f) x) (same (word f 3) (word i 1) && same (word f 4) (word i 2)) there back
+  joins-alike x h f = same-test (eqb (joinInput d f) x)
+      (same (word f 3) (word i 1) && same (word f 4) (word i 2)) there back
     where
       i : Row
       i = getD inputLines x []
@@ -74,25 +78,28 @@ module _ (d : Draft) (fs : List Row) (r : Runs blank 2 fs d) (g : Proper d) wher
 
       there : T (eqb (joinInput d f) x) → T (same (word f 3) (word i 1) && same (word f 4) (word i 2))
       there t =
-          let (a, b) = both-true _ _ _ _ (passes (sym (input-named d fs r g (word f 3) (word f 4)) ∙ eqb→eq _ _ t)) in
+          let (a, b) = both-true _ _ _ _
+          (passes (sym (input-named d fs r g (word f 3) (word f 4)) ∙ eqb→eq _ _ t)) in
           both-same _ _ _ _ (sym a) (sym b)
 
       back : T (same (word f 3) (word i 1) && same (word f 4) (word i 2)) → T (eqb (joinInput d f) x)
       back t =
           let (a, b) = both-true (word f 3) (word i 1) (word f 4) (word i 2) t in
-          eq-true (joinInput d f) x (input-named d fs r g (word f 3) (word f 4) ∙ rw (a, b) (input-at d fs r g x h))
+          eq-true (joinInput d f) x (input-named d fs r g (word f 3) (word f 4)
+          ∙ rw (a, b) (input-at d fs r g x h))
 
   -- the place of the line that joins input x
-  pub join-place : (x : ℕ) → x < length inputLines → place (λ f. eqb (joinInput d f) x) joinLines
-      ≡ place (λ f. same (word f 3) (word (getD inputLines x []) 1) && same (word f 4) (word (getD inputLines x []) 2)) joinLines
+  pub join-place : (x : ℕ) → x < length inputLines → let i = getD inputLines x [] in
+      place (λ f. eqb (joinInput d f) x) joinLines ≡ joinPlace fs (word i 1) (word i 2)
+  unfolding joinPlace
   join-place x h = place-alike _ _ [] joinLines (λ i l. joins-alike x h (getD joinLines i []))
 
   pub source-is : (x : ℕ) → x < length inputLines → (sourceAt d x ≡ unjoined → ⊥)
-      → sourceAt d x ≡ sourceNumber fs (word (getD inputLines x []) 1) (word (getD inputLines x []) 2)
-  unfolding sourceNumber joinOf joinPlace
+      → let i = getD inputLines x [] in sourceAt d x ≡ sourceNumber fs (word i 1) (word i 2)
+  unfolding sourceNumber joinOf
   source-is x h n =
       let i = getD inputLines x [] in
-      let j = getD joinLines (place (λ f. same (word f 3) (word i 1) && same (word f 4) (word i 2)) joinLines) [] in
+      let j = getD joinLines (joinPlace fs (word i 1) (word i 2)) [] in
       source-by x ∙ first-join d x joinLines (λ e. n (source-by x ∙ e))
       ∙ ap (λ k. joinOutput d (getD joinLines k [])) (join-place x h)
       ∙ output-named d fs r g (word j 1) (word j 2)
@@ -102,18 +109,21 @@ module _ (d : Draft) (fs : List Row) (r : Runs blank 2 fs d) (g : Proper d) wher
       ≡ map (λ f. sourceNumber fs (word f 1) (word f 2)) inputLines
   sources-are all = ext-getD unjoined _ _ long each
     where
-      long : length (map (λ (i : Input). i .source) (d .inputs)) ≡ length (map (λ f. sourceNumber fs (word f 1) (word f 2)) inputLines)
+      long : length (map (λ (i : Input). i .source) (d .inputs))
+          ≡ length (map (λ f. sourceNumber fs (word f 1) (word f 2)) inputLines)
       long = length-map (d .inputs) _ ∙ inputs-count d fs r g ∙ sym (length-map inputLines _)
 
       joined : (x : ℕ) → x < length (d .inputs) → sourceAt d x ≡ unjoined → ⊥
-      joined x h e = not-loose d all x h (sym (map-in (λ (i : Input). i .source) noInput unjoined (d .inputs) x h) ∙ e)
+      joined x h e = not-loose d all x h
+          (sym (map-in (λ (i : Input). i .source) noInput unjoined (d .inputs) x h) ∙ e)
 
       each : (x : ℕ) → x < length (map (λ (i : Input). i .source) (d .inputs))
           → sourceAt d x ≡ getD (map (λ f. sourceNumber fs (word f 1) (word f 2)) inputLines) x unjoined
       each x h =
           let l : x < length (d .inputs) = rw (← length-map (d .inputs) (λ (i : Input). i .source)) h in
           let k : x < length inputLines = rw (← inputs-count d fs r g) l in
-          source-is x k (joined x l) ∙ sym (map-in (λ f. sourceNumber fs (word f 1) (word f 2)) [] unjoined inputLines x k)
+          source-is x k (joined x l)
+          ∙ sym (map-in (λ f. sourceNumber fs (word f 1) (word f 2)) [] unjoined inputLines x k)
 
   -- each line that joins is the one that joins its input
   pub join-at : (j : ℕ) → j < length joinLines
@@ -135,7 +145,9 @@ module _ (d : Draft) (fs : List Row) (r : Runs blank 2 fs d) (g : Proper d) wher
             (ap (λ v. inputNamed d (unitNamed d v) (word (getD joinLines (place test joinLines) []) 4)) a
             ∙ ap (inputNamed d (unitNamed d (word f 3))) b))
         | no l ↦ elim (decLt j (place test joinLines)) [
-          | yes k ↦ absurd (clash (test f) (both-same (word f 3) (word f 3) (word f 4) (word f 4) refl refl) (place-is test [] joinLines .below j k))
+          | yes k ↦ absurd (clash (test f)
+              (both-same (word f 3) (word f 3) (word f 4) (word f 4) refl refl)
+              (place-is test [] joinLines .below j k))
           | no k ↦ omega arith
         ]
       ]

@@ -41,7 +41,8 @@ pub data Takes (d : Draft) (k : ℕ) (f : Row) : Draft → Type 0 where
       → unitNamed d (word f 3) < length (d .units)
       → inputNamed d (unitNamed d (word f 3)) (word f 4) < length (d .inputs)
       → sourceOf d (inputNamed d (unitNamed d (word f 3)) (word f 4)) ≡ unjoined
-      → Takes d k f (addJoin d (inputNamed d (unitNamed d (word f 3)) (word f 4)) (outputNamed d (unitNamed d (word f 1)) (word f 2)))
+      → Takes d k f (addJoin d (inputNamed d (unitNamed d (word f 3)) (word f 4))
+      (outputNamed d (unitNamed d (word f 1)) (word f 2)))
 
 module _ (d : Draft) (k : ℕ) (f : Row) where
   -- not refused: the test did not pass, and what is left was taken
@@ -91,7 +92,8 @@ module _ (d : Draft) (k : ℕ) (f : Row) where
       passed _ 27 _ (omega arith) λ y.
       passed _ 32 _ (omega arith) λ a.
       passed _ 29 _ (omega arith) λ a z.
-      takes-feed w (ltb-true _ _ (not-false _ u)) (ltb-true _ _ (not-false _ x)) (ltb-true _ _ (not-false _ y))
+      takes-feed w (ltb-true _ _ (not-false _ u)) (ltb-true _ _ (not-false _ x))
+      (ltb-true _ _ (not-false _ y))
 
   join-taken : word f 0 ≡ ascii "join" → joinLine d f .number ≡ 0 → Takes d k f (joinLine d f .draft)
   unfolding joinLine taken isUnit isInput isOutput
@@ -103,7 +105,8 @@ module _ (d : Draft) (k : ℕ) (f : Row) where
       passed _ 27 _ (omega arith) λ v.
       passed _ 27 _ (omega arith) λ x.
       passed _ 30 _ (omega arith) λ s z.
-      takes-join w (ltb-true _ _ (not-false _ u)) (ltb-true _ _ (not-false _ y)) (ltb-true _ _ (not-false _ v))
+      takes-join w (ltb-true _ _ (not-false _ u)) (ltb-true _ _ (not-false _ y))
+      (ltb-true _ _ (not-false _ v))
       (ltb-true _ _ (not-false _ x)) (eqb-true _ _ (not-false _ s))
 
   -- a line with no refusal is one of the five, and adds what it declares
