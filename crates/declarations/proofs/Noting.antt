@@ -9,11 +9,10 @@ use lib.Seq.{take-all, take-at, length-take-le}
 use Rattle.search.specs.Front.{fronted, Fronting, fronting-starts, fronting-on, fronting-ends}
 use Rattle.grammar.specs.Rows.{rowAt}
 use Rattle.grammar.specs.Lexed.{Lexed}
-use Rattle.grammar.specs.Opening.{opens}
 use Rattle.fields.specs.declared.Fields.{Fields}
 use Rattle.fields.specs.Spans.{fieldsAt}
 use Rattle.fields.specs.Parts.{Part, field-part}
-use Rattle.declarations.specs.Lines.{beginsFrom, Noted}
+use Rattle.declarations.specs.Lines.{opens, beginsFrom, Noted}
 use Rattle.declarations.specs.Turn.{Turn}
 use Rattle.declarations.specs.Begins.{told-small, begins-none, begins-here, begins-later, line-told}
 

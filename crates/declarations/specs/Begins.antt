@@ -9,12 +9,11 @@ use lib.ListN.{length, getD, drop, drop-of-length-le}
 use borrow.Author.Tests.{le-ltb, lt-ltb}
 use Rattle.grammar.specs.Rows.{rows, rowAt}
 use Rattle.grammar.specs.Lexed.{Lexed}
-use Rattle.grammar.specs.Opening.{opens, linesOf}
 use Rattle.fields.specs.Spans.{noFields, span, fieldsAt}
 use Rattle.fields.specs.Places.{rows-none}
 use Rattle.fields.specs.Promise.{fields-told}
 use Rattle.fields.specs.Parts.{next-line, no-line}
-use Rattle.declarations.specs.Lines.{beginsOf, beginsFrom}
+use Rattle.declarations.specs.Lines.{opens, linesOf, beginsOf, beginsFrom}
 
 -- a line that is told stands in a text that is not too long
 pub told-small : (t : List ℕ) (a : ℕ) → 0 < fieldsAt t a .count → length t ≤ 65535

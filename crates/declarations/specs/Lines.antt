@@ -1,14 +1,23 @@
 -- The lines that open with a keyword, and where they begin.
 use Prim.Native.Nat.{ℕ, _+_}
 use mathlib.Core.Path.{_≡_}
-use mathlib.Core.Bool.{cond}
+use mathlib.Core.Bool.{Bool, cond}
 use mathlib.Core.List.{List, [], _∷_}
 use lib.ListN.{length, getD, take, drop}
 use lib.Dec.{ltb}
 use Rattle.search.specs.Front.{fronted}
-use Rattle.grammar.specs.Rows.{rows}
-use Rattle.grammar.specs.Opening.{opens, linesOf}
+use Rattle.grammar.specs.Words.{same}
+use Rattle.grammar.specs.Rows.{rows, word}
 use Rattle.fields.specs.Spans.{span}
+
+-- the line f opens with the keyword w
+unfoldable pub opens : List ℕ → List (List ℕ) → Bool
+opens w f = same (word f 0) w
+
+-- "Numbers are given in line order": the lines that open with w
+unfoldable pub linesOf : List ℕ → List (List (List ℕ)) → List (List (List ℕ))
+linesOf w [] = []
+linesOf w (f ∷ fs) = cond (opens w f) (f ∷ linesOf w fs) (linesOf w fs)
 
 -- the lines that are told: a text over 65,535 bytes has none
 unfoldable pub told : List ℕ → List (List (List ℕ))

@@ -9,12 +9,11 @@ use lib.Seq.{getD-take}
 use lib.ListN.{length, getD, take, drop, drop-of-length-le, length-take}
 use borrow.Author.Tests.{le-ltb, lt-ltb}
 use Rattle.grammar.specs.Rows.{rows, rowAt}
-use Rattle.grammar.specs.Opening.{opens, linesOf}
 use Rattle.fields.specs.Spans.{span, fieldsAt}
 use Rattle.fields.specs.Promise.{fields-told}
 use Rattle.fields.specs.Parts.{next-line}
 use Rattle.fields.specs.Places.{rows-none}
-use Rattle.declarations.specs.Lines.{told, declared, beginsOf, beginsFrom}
+use Rattle.declarations.specs.Lines.{opens, linesOf, told, declared, beginsOf, beginsFrom}
 
 module _ (w t : List ℕ) (d : ℕ) (small : length t ≤ 65535) (past : length t ≤ d) where
   no-row : rowAt t d ≡ []

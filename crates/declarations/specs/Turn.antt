@@ -5,7 +5,7 @@ use mathlib.Core.Bool.{cond}
 use mathlib.Core.List.{List}
 use lib.ListN.{set}
 use Rattle.grammar.specs.Rows.{rowAt}
-use Rattle.grammar.specs.Opening.{opens}
+use Rattle.declarations.specs.Lines.{opens}
 
 -- place a is noted behind n others where its line opens with w
 pub record Turn (w t : List ℕ) (a n : ℕ) (places after : List ℕ) (m : ℕ) : Type 0 where

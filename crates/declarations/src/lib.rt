@@ -7,9 +7,8 @@ ghost use mathlib.Core.Bool.{true};
 ghost use Prim.Native.Nat.{_+_, _<_, _≤_};
 ghost use lib.ListN.{length, set};
 ghost use Rattle.grammar.specs.Rows.{rowAt};
-ghost use Rattle.grammar.specs.Opening.{opens as opensWith};
 ghost use Rattle.fields.specs.Spans.{fieldsAt};
-ghost use Rattle.declarations.specs.Lines.{Noted};
+ghost use Rattle.declarations.specs.Lines.{opens as opensWith, Noted};
 ghost use Rattle.declarations.specs.Turn.{Turn};
 
 // Does the line at place a, with these fields, open with the keyword?

@@ -11,7 +11,7 @@ use Rattle.grammar.specs.Quoted.{ascii}
 use Rattle.grammar.specs.Words.{same}
 use Rattle.grammar.specs.Same.{same-self}
 use Rattle.grammar.specs.Rows.{word, place}
-use Rattle.grammar.specs.Opening.{Row, opens, linesOf}
+use Rattle.grammar.specs.Opening.{Row, linesOf}
 use Rattle.grammar.specs.Draft.{Draft, Output, Input, Feed, noInput, unitNamed, outputNamed, inputNamed, addUnit, addOutput, addInput, addFeed, addJoin, joined}
 use Rattle.grammar.specs.Lines.{kindOf}
 use Rattle.reading.specs.Takes.{takes-unit, takes-output, takes-input, takes-feed, takes-join, Runs, ends, goes-on}
@@ -19,7 +19,7 @@ use Rattle.reading.specs.Found.{place-front, place-map}
 
 -- what there was, and behind it what each line that opens with w gives
 unfoldable pub onward : {B : Type 0} → List ℕ → (Row → B) → List B → List Row → List B
-onward w g xs fs = xs ++ map g (linesOf w fs)
+onward w g xs fs = xs ++ map g (linesOf fs w)
 
 -- ---- one line more that opens with w, or with another word
 module _ {B : Type 0} (w : List ℕ) (g : Row → B) (xs : List B) where
@@ -29,11 +29,11 @@ module _ {B : Type 0} (w : List ℕ) (g : Row → B) (xs : List B) where
 
   module _ (f : Row) (fs : List Row) where
     one-more : (x : B) → word f 0 ≡ w → x ≡ g f → onward w g (xs ++ (x ∷ [])) fs ≡ onward w g xs (f ∷ fs)
-    unfolding onward linesOf opens
-    one-more x e s = rw (e, is-true (same w w) (same-self w), s) (append-snoc xs (g f) (map g (linesOf w fs)))
+    unfolding onward linesOf
+    one-more x e s = rw (e, is-true (same w w) (same-self w), s) (append-snoc xs (g f) (map g (linesOf fs w)))
 
     no-more : (v : List ℕ) → word f 0 ≡ v → T (not (same v w)) → onward w g xs fs ≡ onward w g xs (f ∷ fs)
-    unfolding onward linesOf opens
+    unfolding onward linesOf
     no-more v e n = rw (e, is-false (same v w) n)
 
 pub units-run : {d last : Draft} {k : ℕ} {fs : List Row} → Runs d k fs last

@@ -7,12 +7,12 @@ use lib.Dec.{T}
 use Rattle.grammar.specs.Quoted.{ascii}
 use Rattle.grammar.specs.Words.{same}
 use Rattle.grammar.specs.Rows.{word, place}
-use Rattle.grammar.specs.Opening.{Row, opens, linesOf}
+use Rattle.grammar.specs.Opening.{Row, linesOf}
 use Rattle.reading.specs.Joined.{none-more}
 use Rattle.reading.specs.Numbers.{unitNumber, portNumber, outputNumber, inputNumber, joinPlace, joinOf, sourceNumber, feedNumbers, isLoose, numbered}
 
 module _ (first : Row) (fs : List Row) (opened : word first 0 ≡ ascii "cosim") where
-  pub below : (w : List ℕ) → T (not (same (ascii "cosim") w)) → linesOf w (first ∷ fs) ≡ linesOf w fs
+  pub below : (w : List ℕ) → T (not (same (ascii "cosim") w)) → linesOf (first ∷ fs) w ≡ linesOf fs w
   below w n = none-more w first fs (ascii "cosim") opened n
 
   pub unit-below : unitNumber (first ∷ fs) ≡ unitNumber fs
@@ -61,5 +61,5 @@ module _ (first : Row) (fs : List Row) (opened : word first 0 ≡ ascii "cosim")
 
   -- nor is it an `in` line
   pub loose-below : place (isLoose (first ∷ fs)) (first ∷ fs) ≡ suc (place (isLoose fs) fs)
-  unfolding place isLoose opens same
+  unfolding place isLoose same
   loose-below = rw (loose-alike, opened)

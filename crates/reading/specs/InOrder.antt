@@ -18,36 +18,36 @@ use Rattle.reading.specs.Numbered.{read-numbered}
 
 -- the shape s is that of the lines fs, in line order
 pub record InOrder (fs : List Row) (s : Shape) : Type 0 where
-  pub unit-lines : s .units ≡ length (linesOf (ascii "unit") fs)
-  pub output-lines : s .outputs ≡ length (linesOf (ascii "out") fs)
-  pub input-lines : s .inputs ≡ length (linesOf (ascii "in") fs)
-  pub feed-lines : s .feeds ≡ length (linesOf (ascii "feed") fs)
+  pub unit-lines : s .units ≡ length (linesOf fs (ascii "unit"))
+  pub output-lines : s .outputs ≡ length (linesOf fs (ascii "out"))
+  pub input-lines : s .inputs ≡ length (linesOf fs (ascii "in"))
+  pub feed-lines : s .feeds ≡ length (linesOf fs (ascii "feed"))
   -- output y is declared by line y of those that open with `out`, and so on
-  pub output-owner : (y : ℕ) → y < s .outputs → let f = getD (linesOf (ascii "out") fs) y [] in
+  pub output-owner : (y : ℕ) → y < s .outputs → let f = getD (linesOf fs (ascii "out")) y [] in
       s .outputOwner y ≡ unitNumber fs (word f 1)
-  pub input-owner : (x : ℕ) → x < s .inputs → let f = getD (linesOf (ascii "in") fs) x [] in
+  pub input-owner : (x : ℕ) → x < s .inputs → let f = getD (linesOf fs (ascii "in")) x [] in
       s .inputOwner x ≡ unitNumber fs (word f 1)
-  pub input-kind : (x : ℕ) → x < s .inputs → let f = getD (linesOf (ascii "in") fs) x [] in
+  pub input-kind : (x : ℕ) → x < s .inputs → let f = getD (linesOf fs (ascii "in")) x [] in
       s .kind x ≡ kindOf (word f 3)
-  pub input-source : (x : ℕ) → x < s .inputs → let f = getD (linesOf (ascii "in") fs) x [] in
+  pub input-source : (x : ℕ) → x < s .inputs → let f = getD (linesOf fs (ascii "in")) x [] in
       s .source x ≡ sourceNumber fs (word f 1) (word f 2)
-  pub feed-input : (k : ℕ) → k < s .feeds → let f = getD (linesOf (ascii "feed") fs) k [] in
+  pub feed-input : (k : ℕ) → k < s .feeds → let f = getD (linesOf fs (ascii "feed")) k [] in
       s .feedInput k ≡ inputNumber fs (word f 1) (word f 2)
-  pub feed-output : (k : ℕ) → k < s .feeds → let f = getD (linesOf (ascii "feed") fs) k [] in
+  pub feed-output : (k : ℕ) → k < s .feeds → let f = getD (linesOf fs (ascii "feed")) k [] in
       s .feedOutput k ≡ outputNumber fs (word f 1) (word f 3)
 
 module _ (fs : List Row) where
   abbrev us : List Row
-  us = linesOf (ascii "unit") fs
+  us = linesOf fs (ascii "unit")
 
   abbrev ys : List Row
-  ys = linesOf (ascii "out") fs
+  ys = linesOf fs (ascii "out")
 
   abbrev xs : List Row
-  xs = linesOf (ascii "in") fs
+  xs = linesOf fs (ascii "in")
 
   abbrev ks : List Row
-  ks = linesOf (ascii "feed") fs
+  ks = linesOf fs (ascii "feed")
 
   abbrev unitOf : Row → ℕ
   unitOf f = unitNumber fs (word f 1)

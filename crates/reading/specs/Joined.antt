@@ -14,8 +14,8 @@ use Rattle.grammar.specs.Quoted.{ascii}
 use Rattle.grammar.specs.Words.{same}
 use Rattle.grammar.specs.Same.{same-self}
 use Rattle.grammar.specs.Rows.{word}
-use Rattle.grammar.specs.Opening.{Row, opens, linesOf}
-use Rattle.grammar.specs.Draft.{Draft, Input, unjoined, noInput, unitNamed, outputNamed, inputNamed, sourceOf, addUnit, addOutput, addInput, addFeed, addJoin, joined}
+use Rattle.grammar.specs.Opening.{Row, linesOf}
+use Rattle.grammar.specs.Draft.{Draft, Input, unjoined, noInput, unitNamed, outputNamed, inputNamed, addUnit, addOutput, addInput, addFeed, addJoin, joined}
 use Rattle.reading.specs.Takes.{takes-unit, takes-output, takes-input, takes-feed, takes-join, Runs, ends, goes-on}
 use Rattle.reading.specs.Parts.{map-in}
 use Rattle.reading.specs.Declared.{onward, outputs-run, unit-stays, output-stays, input-stays}
@@ -50,18 +50,18 @@ map-set f (x ∷ xs) zero a = refl
 map-set f (x ∷ xs) (suc i) a = ap (λ r. f x ∷ r) (map-set f xs i a)
 
 -- ---- the lines that open with w, with one line more
-pub first-more : (w : List ℕ) (f : Row) (fs : List Row) → word f 0 ≡ w → linesOf w (f ∷ fs) ≡ f ∷ linesOf w fs
-unfolding linesOf opens
+pub first-more : (w : List ℕ) (f : Row) (fs : List Row) → word f 0 ≡ w → linesOf (f ∷ fs) w ≡ f ∷ linesOf fs w
+unfolding linesOf
 first-more w f fs e = rw (e, is-true (same w w) (same-self w))
 
 pub none-more : (w : List ℕ) (f : Row) (fs : List Row) (v : List ℕ) → word f 0 ≡ v → T (not (same v w))
-    → linesOf w (f ∷ fs) ≡ linesOf w fs
-unfolding linesOf opens
+    → linesOf (f ∷ fs) w ≡ linesOf fs w
+unfolding linesOf
 none-more w f fs v e n = rw (e, is-false (same v w) n)
 
 -- s where it is joined, else the source by these lines
 unfoldable pub orBy : ℕ → Draft → ℕ → List Row → ℕ
-orBy s d x fs = cond (eqb s unjoined) (sourceBy d x (linesOf (ascii "join") fs)) s
+orBy s d x fs = cond (eqb s unjoined) (sourceBy d x (linesOf fs (ascii "join"))) s
 
 or-first : (s : ℕ) (d : Draft) (x : ℕ) → s ≡ orBy s d x []
 unfolding orBy sourceBy linesOf
@@ -110,13 +110,12 @@ module _ (d : Draft) (a y : ℕ) where
   pub source-other : (x : ℕ) → (x ≡ a → ⊥) → sourceAt (addJoin d a y) x ≡ sourceAt d x
   source-other x n = join-source x ∙ getD-set-other were a x y 255 n
 
-  pub source-free : a < length (d .inputs) → sourceOf d a ≡ unjoined → sourceAt d a ≡ unjoined
-  unfolding sourceOf
+  pub source-free : a < length (d .inputs) → getD (d .inputs) a noInput .source ≡ unjoined → sourceAt d a ≡ unjoined
   source-free h e = map-in (λ (i : Input). i .source) noInput 255 (d .inputs) a h ∙ e
 
   -- a line that joins input a, which was not joined, to output y
   or-join : (last : Draft) (f : Row) (fs : List Row) → word f 0 ≡ ascii "join" → joinInput last f ≡ a
-      → joinOutput last f ≡ y → a < length (d .inputs) → sourceOf d a ≡ unjoined → y < unjoined
+      → joinOutput last f ≡ y → a < length (d .inputs) → getD (d .inputs) a noInput .source ≡ unjoined → y < unjoined
       → (x : ℕ) → orBy (sourceAt (addJoin d a y) x) last x fs ≡ orBy (sourceAt d x) last x (f ∷ fs)
   or-join last f fs w p q h e l x = elim (ℕ-discrete x a) [
     | yes z ↦ rw z (ap (λ s. orBy s last a fs) (source-joined h)

@@ -15,7 +15,7 @@ use Rattle.reading.specs.Joined.{joinInput, joinOutput, sourceAt, first-
 unfoldable NoneJoins : Draft → ℕ → List Row → Type 0
 NoneJoins d x js = (i : ℕ) → i < length js → joinInput d (getD js i []) ≡ x → ⊥
 
-none-first : (d : Draft) (x : ℕ) → NoneJoins d x (linesOf (ascii "join") [])
+none-first : (d : Draft) (x : ℕ) → NoneJoins d x (linesOf [] (ascii "join"))
 unfolding NoneJoins linesOf
 none-first d x i l e = absurd (omega arith)
 
@@ -27,7 +27,7 @@ none-joins d x f js n h (suc i) l e = h i (omega arith) e
 
 -- an input that is joined is joined by no line below
 not-again : {d last : Draft} {k : ℕ} {fs : List Row} → Runs d k fs last
-    → (x : ℕ) → (sourceAt d x ≡ unjoined → ⊥) → NoneJoins last x (linesOf (ascii "join") fs)
+    → (x : ℕ) → (sourceAt d x ≡ unjoined → ⊥) → NoneJoins last x (linesOf fs (ascii "join"))
 unfolding same addUnit addOutput addFeed
 not-again ends x n = none-first _ x
 not-again (goes-on (takes-unit w h) r) x n = rw (none-more (ascii "join") _ _ _ w tt) (not-again r x n)
@@ -47,7 +47,7 @@ not-again {d} (goes-on {last = last} {f = f} {fs = fs} (takes-join w u y v z s) 
 unfoldable pub Apart : Draft → List Row → Type 0
 Apart d js = (i j : ℕ) → i < j → j < length js → joinInput d (getD js i []) ≡ joinInput d (getD js j []) → ⊥
 
-apart-first : (d : Draft) → Apart d (linesOf (ascii "join") [])
+apart-first : (d : Draft) → Apart d (linesOf [] (ascii "join"))
 unfolding Apart linesOf
 apart-first d i j h l e = absurd (omega arith)
 
@@ -59,7 +59,7 @@ apart-more d f js n a zero (suc j) h l e = n j (omega arith) (sym e)
 apart-more d f js n a (suc i) (suc j) h l e = a i j (omega arith) (omega arith) e
 
 pub joins-apart : {d last : Draft} {k : ℕ} {fs : List Row} → Runs d k fs last
-    → length (last .outputs) ≤ 255 → Apart last (linesOf (ascii "join") fs)
+    → length (last .outputs) ≤ 255 → Apart last (linesOf fs (ascii "join"))
 unfolding same addUnit addOutput addFeed
 joins-apart ends m = apart-first _
 joins-apart (goes-on (takes-unit w h) r) m = rw (none-more (ascii "join") _ _ _ w tt) (joins-apart r m)

@@ -12,7 +12,7 @@ use Rattle.grammar.specs.Quoted.{ascii}
 use Rattle.grammar.specs.Rows.{rows, word, place, lineOf, firstBad}
 use Rattle.grammar.specs.Opening.{Row}
 use Rattle.grammar.specs.Draft.{Draft, blank}
-use Rattle.grammar.specs.Reading.{Reading, reading, stopped, written}
+use Rattle.grammar.specs.Reading.{Reading, reading, stopped}
 use Rattle.reading.specs.Proper.{Proper}
 use Rattle.reading.specs.Takes.{Runs}
 use Rattle.reading.specs.Reads.{Closes, closes-33, closes-31, closes-34, closes-0, Comes, to-line, to-end, Reads, reads-20, reads-21, reads-22, reads-23, reads-lines, text-reads}
@@ -138,7 +138,6 @@ module _ (room : ℕ) (t : List ℕ) where
 
     lined-end : (last : Draft) (r : Reading) → Runs blank 2 fs last → Proper last → Closes room last r
         → (r .number ≡ 0 → ⊥) → Lined t r
-    unfolding written
     lined-end last r c g (closes-33 z) n = lined-one 33 (inr refl) (count-some t ended)
     lined-end last r c g (closes-31 z) n =
         let (e, l) = loose-line last fs c g z in

@@ -13,7 +13,7 @@ use Rattle.grammar.specs.Quoted.{ascii}
 use Rattle.grammar.specs.Words.{same}
 use Rattle.grammar.specs.Same.{same-self}
 use Rattle.grammar.specs.Rows.{word, place}
-use Rattle.grammar.specs.Opening.{Row, opens, linesOf}
+use Rattle.grammar.specs.Opening.{Row, linesOf}
 use Rattle.grammar.specs.Draft.{Draft, Input, blank, unjoined, noInput, unitNamed, outputNamed, loose, addUnit, addOutput, addInput, addFeed, addJoin, joined}
 use Rattle.reading.specs.Proper.{Proper}
 use Rattle.reading.specs.Parts.{map-in}
@@ -27,7 +27,7 @@ use Rattle.reading.specs.Sourced.{source-by, join-place}
 -- the numbers of the lines that open with w, the first of all lines being line k
 unfoldable lineNumbers : List ℕ → ℕ → List Row → List ℕ
 lineNumbers w k [] = []
-lineNumbers w k (f ∷ fs) = cond (opens w f) (k ∷ lineNumbers w (suc k) fs) (lineNumbers w (suc k) fs)
+lineNumbers w k (f ∷ fs) = cond (same (word f 0) w) (k ∷ lineNumbers w (suc k) fs) (lineNumbers w (suc k) fs)
 
 -- the lines of the inputs there were, and behind them those of the inputs that the lines declare
 unfoldable withLines : List ℕ → ℕ → List Row → List ℕ
@@ -40,13 +40,13 @@ module _ (ls : List ℕ) (k : ℕ) where
 
   lines-one : (f : Row) (fs : List Row) → word f 0 ≡ ascii "in"
       → withLines (ls ++ (k ∷ [])) (suc k) fs ≡ withLines ls k (f ∷ fs)
-  unfolding withLines lineNumbers opens
+  unfolding withLines lineNumbers
   lines-one f fs e = rw (e, is-true (same (ascii "in") (ascii "in")) (same-self (ascii "in")))
       (append-snoc ls k (lineNumbers (ascii "in") (suc k) fs))
 
   lines-none : (f : Row) (fs : List Row) (v : List ℕ) → word f 0 ≡ v → T (not (same v (ascii "in")))
       → withLines ls (suc k) fs ≡ withLines ls k (f ∷ fs)
-  unfolding withLines lineNumbers opens
+  unfolding withLines lineNumbers
   lines-none f fs v e n = rw (e, is-false (same v (ascii "in")) n)
 
 abbrev lineOf : Input → ℕ
@@ -68,35 +68,35 @@ lines-run {d} (goes-on {k = k} {fs = fs} (takes-join w u y v x s) r) =
 
 -- the first of the lines that open with w and pass is the first line that opens with w and passes
 first-line : (w : List ℕ) (p : Row → Bool) (k : ℕ) (fs : List Row)
-    → place p (linesOf w fs) < length (linesOf w fs)
-    → (getD (lineNumbers w k fs) (place p (linesOf w fs)) 0 ≡ k + place (λ f. opens w f && p f) fs)
-    × (place (λ f. opens w f && p f) fs < length fs)
+    → place p (linesOf fs w) < length (linesOf fs w)
+    → (getD (lineNumbers w k fs) (place p (linesOf fs w)) 0 ≡ k + place (λ f. same (word f 0) w && p f) fs)
+    × (place (λ f. same (word f 0) w && p f) fs < length fs)
 unfolding lineNumbers linesOf place
 first-line w p k [] h = absurd (omega arith)
-first-line w p k (f ∷ fs) h = go (opens w f) (first-line w p (suc k) fs) h
+first-line w p k (f ∷ fs) h = go (same (word f 0) w) (first-line w p (suc k) fs) h
   where
     numbers : List ℕ
     numbers = lineNumbers w (suc k) fs
 
     rest : ℕ
-    rest = place (λ f. opens w f && p f) fs
+    rest = place (λ f. same (word f 0) w && p f) fs
 
     among : ℕ
-    among = place p (linesOf w fs)
+    among = place p (linesOf fs w)
 
-    opened : (b : Bool) → (among < length (linesOf w fs)
+    opened : (b : Bool) → (among < length (linesOf fs w)
         → (getD numbers among 0 ≡ suc k + rest) × (rest < length fs))
-        → cond b 0 (suc among) < suc (length (linesOf w fs))
+        → cond b 0 (suc among) < suc (length (linesOf fs w))
         → (getD (k ∷ numbers) (cond b 0 (suc among)) 0 ≡ k + cond b 0 (suc rest))
         × (cond b 0 (suc rest) < suc (length fs))
     opened true ih h = (omega arith, omega arith)
     opened false ih h = let (e, l) = ih (omega arith) in (omega arith, omega arith)
 
-    go : (a : Bool) → (among < length (linesOf w fs)
+    go : (a : Bool) → (among < length (linesOf fs w)
         → (getD numbers among 0 ≡ suc k + rest) × (rest < length fs))
-        → place p (cond a (f ∷ linesOf w fs) (linesOf w fs))
-        < length (cond a (f ∷ linesOf w fs) (linesOf w fs))
-        → (getD (cond a (k ∷ numbers) numbers) (place p (cond a (f ∷ linesOf w fs) (linesOf w fs))) 0
+        → place p (cond a (f ∷ linesOf fs w) (linesOf fs w))
+        < length (cond a (f ∷ linesOf fs w) (linesOf fs w))
+        → (getD (cond a (k ∷ numbers) numbers) (place p (cond a (f ∷ linesOf fs w) (linesOf fs w))) 0
         ≡ k + cond (a && p f) 0 (suc rest))
         × (cond (a && p f) 0 (suc rest) < suc (length fs))
     go true ih h = opened (p f) ih h
@@ -123,10 +123,10 @@ by-none d x (f ∷ fs) low = go (eqb (joinInput d f) x) (by-none d x fs low)
 
 module _ (d : Draft) (fs : List Row) (r : Runs blank 2 fs d) (g : Proper d) where
   abbrev inputLines : List Row
-  inputLines = linesOf (ascii "in") fs
+  inputLines = linesOf fs (ascii "in")
 
   abbrev free : Row → Bool
-  free f = leb (length (linesOf (ascii "join") fs)) (joinPlace fs (word f 1) (word f 2))
+  free f = leb (length (linesOf fs (ascii "join"))) (joinPlace fs (word f 1) (word f 2))
 
   low : (f : Row) → joinOutput d f < unjoined
   unfolding outputNamed
@@ -145,8 +145,8 @@ module _ (d : Draft) (fs : List Row) (r : Runs blank 2 fs d) (g : Proper d) wher
       let k : x < length inputLines = rw (← inputs-count d fs r g) h in
       ap (λ s. eqb s 255) (sym (map-in (λ (i : Input). i .source) noInput 255 (d .inputs) x h)
       ∙ source-by d fs r g x)
-      ∙ by-none d x (linesOf (ascii "join") fs) low
-      ∙ ap (leb (length (linesOf (ascii "join") fs))) (join-place d fs r g x k))
+      ∙ by-none d x (linesOf fs (ascii "join")) low
+      ∙ ap (leb (length (linesOf fs (ascii "join")))) (join-place d fs r g x k))
 
   pub loose-line : loose d < length (d .inputs)
       → (getD (d .inputs) (loose d) noInput .line ≡ 2 + place (isLoose fs) fs)

@@ -24,13 +24,13 @@ use Rattle.reading.specs.Numbers.{unitNumber, portNumber, outputNumber, 
 
 module _ (d : Draft) (fs : List Row) (r : Runs blank 2 fs d) (g : Proper d) where
   abbrev unitLines : List Row
-  unitLines = linesOf (ascii "unit") fs
+  unitLines = linesOf fs (ascii "unit")
 
   abbrev outputLines : List Row
-  outputLines = linesOf (ascii "out") fs
+  outputLines = linesOf fs (ascii "out")
 
   abbrev inputLines : List Row
-  inputLines = linesOf (ascii "in") fs
+  inputLines = linesOf fs (ascii "in")
 
   -- ---- what the draft holds
   pub units-are : d .units ≡ map (λ f. word f 1) unitLines
@@ -45,7 +45,7 @@ module _ (d : Draft) (fs : List Row) (r : Runs blank 2 fs d) (g : Proper d) wher
   unfolding onward blank
   inputs-are = inputs-run r
 
-  pub feeds-are : d .feeds ≡ map (feedBy d) (linesOf (ascii "feed") fs)
+  pub feeds-are : d .feeds ≡ map (feedBy d) (linesOf fs (ascii "feed"))
   unfolding onward blank
   feeds-are = feeds-run r
 

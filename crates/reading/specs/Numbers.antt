@@ -7,18 +7,18 @@ use lib.Dec.{leb}
 use Rattle.grammar.specs.Quoted.{ascii}
 use Rattle.grammar.specs.Words.{same}
 use Rattle.grammar.specs.Rows.{word, place}
-use Rattle.grammar.specs.Opening.{Row, opens, linesOf}
+use Rattle.grammar.specs.Opening.{Row, linesOf}
 use Rattle.grammar.specs.Draft.{Feed}
 use Rattle.grammar.specs.Lines.{kindOf}
 use Rattle.grammar.specs.Reading.{pairs}
 
 -- "Numbers are given in line order": the place of the unit n among the `unit` lines
 unfoldable pub unitNumber : List Row → List ℕ → ℕ
-unitNumber fs n = place (λ f. same (word f 1) n) (linesOf (ascii "unit") fs)
+unitNumber fs n = place (λ f. same (word f 1) n) (linesOf fs (ascii "unit"))
 
 -- the place of the port n of the unit u among the lines that open with w
 unfoldable pub portNumber : List ℕ → List Row → List ℕ → List ℕ → ℕ
-portNumber w fs u n = place (λ f. same (word f 1) u && same (word f 2) n) (linesOf w fs)
+portNumber w fs u n = place (λ f. same (word f 1) u && same (word f 2) n) (linesOf fs w)
 
 abbrev pub outputNumber : List Row → List ℕ → List ℕ → ℕ
 outputNumber = portNumber (ascii "out")
@@ -28,10 +28,10 @@ inputNumber = portNumber (ascii "in")
 
 -- the place of the line that joins the input n of the unit u among the `join` lines, and that line
 unfoldable pub joinPlace : List Row → List ℕ → List ℕ → ℕ
-joinPlace fs u n = place (λ f. same (word f 3) u && same (word f 4) n) (linesOf (ascii "join") fs)
+joinPlace fs u n = place (λ f. same (word f 3) u && same (word f 4) n) (linesOf fs (ascii "join"))
 
 unfoldable pub joinOf : List Row → List ℕ → List ℕ → Row
-joinOf fs u n = getD (linesOf (ascii "join") fs) (joinPlace fs u n) []
+joinOf fs u n = getD (linesOf fs (ascii "join")) (joinPlace fs u n) []
 
 -- the output that this line names
 unfoldable pub sourceNumber : List Row → List ℕ → List ℕ → ℕ
@@ -40,7 +40,7 @@ sourceNumber fs u n = outputNumber fs (word (joinOf fs u n) 1) (word (joinOf fs 
 -- f is an `in` line whose input no line joins
 unfoldable pub isLoose : List Row → Row → Bool
 isLoose fs f =
-    opens (ascii "in") f && leb (length (linesOf (ascii "join") fs)) (joinPlace fs (word f 1) (word f 2))
+    same (word f 0) (ascii "in") && leb (length (linesOf fs (ascii "join"))) (joinPlace fs (word f 1) (word f 2))
 
 -- the pair that a `feed` line names
 unfoldable pub feedNumbers : List Row → Row → Feed
@@ -52,10 +52,10 @@ feedNumbers fs f = record {
 -- "The packed table": counts, owners of outputs and of inputs, kinds, sources, feeds
 unfoldable pub numbered : List Row → List ℕ
 numbered fs =
-    let units = linesOf (ascii "unit") fs in
-    let outputs = linesOf (ascii "out") fs in
-    let inputs = linesOf (ascii "in") fs in
-    let feeds = linesOf (ascii "feed") fs in
+    let units = linesOf fs (ascii "unit") in
+    let outputs = linesOf fs (ascii "out") in
+    let inputs = linesOf fs (ascii "in") in
+    let feeds = linesOf fs (ascii "feed") in
     length units ∷ (length outputs ∷ (length inputs ∷ (length feeds ∷
     (map (λ f. unitNumber fs (word f 1)) outputs ++ (map (λ f. unitNumber fs (word f 1)) inputs
     ++ (map (λ f. kindOf (word f 3)) inputs ++ (map (λ f. sourceNumber fs (word f 1) (word f 2)) inputs

@@ -22,13 +22,17 @@ use Rattle.reading.specs.Kept.{line-kept}
 use Rattle.reading.specs.Refused.{refusals}
 use Rattle.reading.specs.Takes.{line-taken, Runs, ends, goes-on}
 
+-- what is read where nothing is refused
+abbrev pub table : Draft → Reading
+table d = record { number = 0; place = length (packed d); bytes = packed d }
+
 -- the end: no unit, an input that is not joined, too little room, or the table
 pub data Closes (room : ℕ) (d : Draft) : Reading → Type 0 where
   closes-33 : length (d .units) ≡ 0 → Closes room d (stopped 33 1)
   closes-31 : loose d < length (d .inputs)
       → Closes room d (stopped 31 (getD (d .inputs) (loose d) noInput .line))
   closes-34 : Closes room d (stopped 34 0)
-  closes-0 : 0 < length (d .units) → length (d .inputs) ≤ loose d → Closes room d (written d)
+  closes-0 : 0 < length (d .units) → length (d .inputs) ≤ loose d → Closes room d (table d)
 
 -- the lines from line k on: one is the first that is refused, or all are taken
 pub data Comes (room : ℕ) (d : Draft) (k : ℕ) (fs : List Row) : Reading → Type 0 where
@@ -49,14 +53,14 @@ pub data Reads (room : ℕ) (t : List ℕ) : Reading → Type 0 where
       → rows t ≡ first ∷ fs → word first 0 ≡ ascii "cosim" → Comes room blank 2 fs r → Reads room t r
 
 pub ending-closes : (room : ℕ) (d : Draft) → Closes room d (ending room d)
-unfolding ending isInput
+unfolding ending isInput written
 ending-closes room d = go (eqb (length (d .units)) 0) refl (ltb (loose d) (length (d .inputs))) refl
     (ltb room (length (packed d)))
   where
     go : (a : Bool) → eqb (length (d .units)) 0 ≡ a → (b : Bool) → ltb (loose d) (length (d .inputs)) ≡ b
         → (c : Bool)
         → Closes room d (cond a (stopped 33 1)
-        (cond b (stopped 31 (getD (d .inputs) (loose d) noInput .line)) (cond c (stopped 34 0) (written d))))
+        (cond b (stopped 31 (getD (d .inputs) (loose d) noInput .line)) (cond c (stopped 34 0) (table d))))
     go true p b q c = closes-33 (eqb-true _ _ p)
     go false p true q c = closes-31 (ltb-true _ _ q)
     go false p false q true = closes-34
@@ -151,7 +155,7 @@ pub record Read (t : List ℕ) (r : Reading) : Type 0 where
   pub proper : Proper draft
   pub some : 0 < length (draft .units)
   pub joined : length (draft .inputs) ≤ loose draft
-  pub result : r ≡ written draft
+  pub result : r ≡ table draft
 
 pub text-read : (room : ℕ) (t : List ℕ) → reading room t .number ≡ 0 → Read t (reading room t)
 unfolding stopped

@@ -11,7 +11,7 @@ use Rattle.table.specs.Sound.{Sound}
 use Rattle.table.specs.Check.{refusal}
 use Rattle.table.specs.Checked.{sound-passed}
 use Rattle.grammar.specs.Draft.{Draft, Output, Input, noInput, loose}
-use Rattle.grammar.specs.Reading.{Reading, reading, written, packed, pairs as feedPairs}
+use Rattle.grammar.specs.Reading.{Reading, reading, packed, pairs as feedPairs}
 use Rattle.reading.specs.Proper.{Proper, noOutput, noFeed}
 use Rattle.reading.specs.Reads.{not-loose, text-read}
 use Rattle.reading.specs.Parts.{map-at, pairs-long, pairs-input, pairs-output, long, output-owners, input-owners, kinds-are, sources-are, pairs-are}
@@ -95,7 +95,6 @@ joined-all d g all x h = elim (g .sourced x h) [ inr z ↦ z | inl z ↦ absurd 
 
 -- a text that is read gives a sound table
 pub read-sound : (room : ℕ) (t : List ℕ) → reading room t .number ≡ 0 → Sound (reading room t .bytes)
-unfolding written
 read-sound room t e =
     let r = text-read room t e in
     subst (λ (z : Reading). Sound (z .bytes)) (sym (r .result))

@@ -49,10 +49,10 @@ first-join d x (f ∷ fs) n = go (eqb (joinInput d f) x) (first-join d x fs) n
 
 module _ (d : Draft) (fs : List Row) (r : Runs blank 2 fs d) (g : Proper d) where
   abbrev inputLines : List Row
-  inputLines = linesOf (ascii "in") fs
+  inputLines = linesOf fs (ascii "in")
 
   abbrev joinLines : List Row
-  joinLines = linesOf (ascii "join") fs
+  joinLines = linesOf fs (ascii "join")
 
   pub source-by : (x : ℕ) → sourceAt d x ≡ sourceBy d x joinLines
   unfolding blank orBy

@@ -4,12 +4,12 @@ use mathlib.Core.Path.{_≡_, refl}
 use mathlib.Core.Bool.{Bool, true, false}
 use mathlib.Core.List.{List, [], _∷_}
 use native.Mathlib.Omega.{arith}
-use lib.ListN.{length}
+use lib.ListN.{length, getD}
 use borrow.Author.Tests.{eqb-true, ltb-true, ltb-false, not-false}
 use Rattle.grammar.specs.Quoted.{ascii}
 use Rattle.grammar.specs.Rows.{word}
 use Rattle.grammar.specs.Opening.{Row}
-use Rattle.grammar.specs.Draft.{Draft, unjoined, unitNamed, outputNamed, inputNamed, sourceOf, isUnit, isOutput, isInput, addUnit, addOutput, addInput, addFeed, addJoin}
+use Rattle.grammar.specs.Draft.{Draft, unjoined, noInput, unitNamed, outputNamed, inputNamed, sourceOf, isUnit, isOutput, isInput, addUnit, addOutput, addInput, addFeed, addJoin}
 use Rattle.grammar.specs.Lines.{Outcome, refuse, refused, taken, kindOf, unitLine, outLine, inLine, feedLine, joinLine, line}
 use Rattle.reading.specs.Keyword.{by-keyword}
 
@@ -40,7 +40,7 @@ pub data Takes (d : Draft) (k : ℕ) (f : Row) : Draft → Type 0 where
       → outputNamed d (unitNamed d (word f 1)) (word f 2) < length (d .outputs)
       → unitNamed d (word f 3) < length (d .units)
       → inputNamed d (unitNamed d (word f 3)) (word f 4) < length (d .inputs)
-      → sourceOf d (inputNamed d (unitNamed d (word f 3)) (word f 4)) ≡ unjoined
+      → getD (d .inputs) (inputNamed d (unitNamed d (word f 3)) (word f 4)) noInput .source ≡ unjoined
       → Takes d k f (addJoin d (inputNamed d (unitNamed d (word f 3)) (word f 4))
       (outputNamed d (unitNamed d (word f 1)) (word f 2)))
 
@@ -96,7 +96,7 @@ module _ (d : Draft) (k : ℕ) (f : Row) where
       (ltb-true _ _ (not-false _ y))
 
   join-taken : word f 0 ≡ ascii "join" → joinLine d f .number ≡ 0 → Takes d k f (joinLine d f .draft)
-  unfolding joinLine taken isUnit isInput isOutput
+  unfolding joinLine taken isUnit isInput isOutput sourceOf
   join-taken w =
       passed _ 24 _ (omega arith) λ a.
       passed _ 25 _ (omega arith) λ a.

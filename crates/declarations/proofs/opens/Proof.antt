@@ -5,7 +5,7 @@ use Rattle.declarations.proofs.opens.Tie as tie
 use native.Mathlib.Omega.{arith}
 use Rattle.grammar.specs.Words.{same}
 use Rattle.grammar.specs.Rows.{stretch}
-use Rattle.grammar.specs.Opening.{opens}
+use Rattle.declarations.specs.Lines.{opens}
 use Rattle.declarations.proofs.Noting.{first-part}
 
 element-copy-out-from : tie.Need-element-copy-out-from
