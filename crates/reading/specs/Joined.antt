@@ -110,12 +110,14 @@ module _ (d : Draft) (a y : ℕ) where
   pub source-other : (x : ℕ) → (x ≡ a → ⊥) → sourceAt (addJoin d a y) x ≡ sourceAt d x
   source-other x n = join-source x ∙ getD-set-other were a x y 255 n
 
-  pub source-free : a < length (d .inputs) → getD (d .inputs) a noInput .source ≡ unjoined → sourceAt d a ≡ unjoined
+  pub source-free : a < length (d .inputs) → getD (d .inputs) a noInput .source ≡ unjoined
+      → sourceAt d a ≡ unjoined
   source-free h e = map-in (λ (i : Input). i .source) noInput 255 (d .inputs) a h ∙ e
 
   -- a line that joins input a, which was not joined, to output y
   or-join : (last : Draft) (f : Row) (fs : List Row) → word f 0 ≡ ascii "join" → joinInput last f ≡ a
-      → joinOutput last f ≡ y → a < length (d .inputs) → getD (d .inputs) a noInput .source ≡ unjoined → y < unjoined
+      → joinOutput last f ≡ y → a < length (d .inputs) → getD (d .inputs) a noInput .source ≡ unjoined
+      → y < unjoined
       → (x : ℕ) → orBy (sourceAt (addJoin d a y) x) last x fs ≡ orBy (sourceAt d x) last x (f ∷ fs)
   or-join last f fs w p q h e l x = elim (ℕ-discrete x a) [
     | yes z ↦ rw z (ap (λ s. orBy s last a fs) (source-joined h)

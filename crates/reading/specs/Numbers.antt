@@ -40,7 +40,8 @@ sourceNumber fs u n = outputNumber fs (word (joinOf fs u n) 1) (word (joinOf fs 
 -- f is an `in` line whose input no line joins
 unfoldable pub isLoose : List Row → Row → Bool
 isLoose fs f =
-    same (word f 0) (ascii "in") && leb (length (linesOf fs (ascii "join"))) (joinPlace fs (word f 1) (word f 2))
+    same (word f 0) (ascii "in")
+    && leb (length (linesOf fs (ascii "join"))) (joinPlace fs (word f 1) (word f 2))
 
 -- the pair that a `feed` line names
 unfoldable pub feedNumbers : List Row → Row → Feed
