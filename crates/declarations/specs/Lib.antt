@@ -1,5 +1,4 @@
 -- The lines that declare units, outputs and inputs.
-pub mod Lines
 pub mod Noted
 pub mod Turn
 pub mod Begins

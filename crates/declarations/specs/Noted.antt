@@ -9,7 +9,7 @@ use Rattle.search.specs.Front.{fronted}
 use Rattle.grammar.specs.Words.{same}
 use Rattle.grammar.specs.Rows.{rows, word}
 use Rattle.fields.specs.Spans.{span}
-use Rattle.declarations.specs.Lines.{linesOf}
+use Rattle.grammar.specs.Opening.{linesOf}
 
 -- the line f opens with the keyword w
 abbrev pub opens : List ℕ → List (List ℕ) → Bool

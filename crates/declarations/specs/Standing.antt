@@ -13,7 +13,7 @@ use Rattle.fields.specs.Spans.{span, fieldsAt}
 use Rattle.fields.specs.Promise.{fields-told}
 use Rattle.fields.specs.Parts.{next-line}
 use Rattle.fields.specs.Places.{rows-none}
-use Rattle.declarations.specs.Lines.{linesOf}
+use Rattle.grammar.specs.Opening.{linesOf}
 use Rattle.declarations.specs.Noted.{opens, told, declared, beginsOf, beginsFrom}
 
 module _ (w t : List ℕ) (d : ℕ) (small : length t ≤ 65535) (past : length t ≤ d) where

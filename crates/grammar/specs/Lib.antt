@@ -1,6 +1,8 @@
 pub mod Quoted
 pub mod Words
+pub mod Same
 pub mod Rows
+pub mod Opening
 pub mod Draft
 pub mod Lines
 pub mod Reading

@@ -26,7 +26,7 @@ use Rattle.grammar.specs.Lines.{
 use Rattle.grammar.specs.Reading.{Reading, reading, lineByLine, linesFrom, stopped, version}
 use Rattle.reading.specs.Proper.{Proper, blank-proper}
 use Rattle.reading.specs.Kept.{line-kept}
-use Rattle.declarations.specs.Lines.{linesOf}
+use Rattle.grammar.specs.Opening.{linesOf}
 use Rattle.declarations.specs.Noted.{declared}
 use Rattle.declarations.specs.Standing.{declared-all}
 

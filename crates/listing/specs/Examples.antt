@@ -89,7 +89,7 @@ use Rattle.grammar.specs.Reading.{
   lineByLine,
   reading,
 }
-use Rattle.declarations.specs.Lines.{linesOf}
+use Rattle.grammar.specs.Opening.{linesOf}
 use Rattle.pen.specs.Decimal.{spell, decimal}
 use Rattle.printing.specs.Printed.{printed}
 use Rattle.printing.specs.Entries.{entry, entries, callsText, refusalText, outcomeText}

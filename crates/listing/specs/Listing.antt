@@ -6,7 +6,7 @@ use lib.Dec.{eqb}
 use Rattle.grammar.specs.Quoted.{ascii}
 use Rattle.grammar.specs.Rows.{rows}
 use Rattle.grammar.specs.Reading.{Reading, reading}
-use Rattle.declarations.specs.Lines.{linesOf}
+use Rattle.grammar.specs.Opening.{linesOf}
 use Rattle.sorter.specs.Ordering.{ordering}
 use Rattle.printing.specs.Entries.{outcomeText, refusalText}
 

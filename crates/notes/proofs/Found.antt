@@ -1,9 +1,9 @@
 -- A search through the marks finds what the draft's names say.
 use Prim.Native.Nat.{ℕ, _+_}
-use mathlib.Core.Path.{_≡_, refl, sym, ap, _∙_}
+use mathlib.Core.Path.{_≡_, sym, ap, _∙_}
 use mathlib.Core.Logic.{inl, inr}
 use mathlib.Core.Bool.{false, not, _&&_}
-use mathlib.Core.List.{List, [], _∷_}
+use mathlib.Core.List.{List, []}
 use native.Mathlib.Omega.{arith}
 use native.Mathlib.Nat.{zero-add}
 use lib.ListN.{getD}
@@ -12,6 +12,7 @@ use borrow.Author.Tests.{eqb-true, eq-eqb, ne-eqb}
 use Rattle.search.specs.Least.{leastFrom}
 use Rattle.search.specs.Truth.{T-and, either, is-true}
 use Rattle.grammar.specs.Words.{same}
+use Rattle.grammar.specs.Same.{same-true}
 use Rattle.grammar.specs.Rows.{fieldAt}
 use Rattle.grammar.specs.Places.{place-least}
 use Rattle.grammar.specs.Draft.{noInput, unitNamed, outputNamed, inputNamed}
@@ -20,15 +21,6 @@ use Rattle.notes.specs.Listed.{listed, listed-length, listed-at}
 use Rattle.notes.specs.declared.Counts.{Counts}
 use Rattle.notes.specs.Notes.{nameAt, outputAt, inputAt, draftOf, Marked, Fit}
 use Rattle.notes.specs.Notes.{isNamed, named, Findable}
-
-pub same-true : (v w : List ℕ) → T (same v w) → v ≡ w
-unfolding same
-same-true [] [] h = refl
-same-true [] (y ∷ ys) h = absurd h
-same-true (x ∷ xs) [] h = absurd h
-same-true (x ∷ xs) (y ∷ ys) h =
-    let (a, b) = T-and (eqb x y) (same xs ys) h in
-    rw (eqb-true x y (is-true (eqb x y) a), same-true xs ys b)
 
 -- a name of another mark is another name
 pub passed-over : (t p s : List ℕ) (u : ℕ) (w : List ℕ) (k : ℕ) → Marked t p s k

@@ -17,6 +17,7 @@ use Rattle.grammar.specs.Lines.{Outcome, refuse, refused, taken, kindOf}
 use Rattle.grammar.specs.Lines.{unitLine, outLine, inLine, feedLine, joinLine, line}
 use Rattle.reading.specs.Proper.{Proper, noOutput, noFeed}
 use Rattle.reading.specs.Proper.{unit-proper, output-proper, input-proper, feed-proper, join-proper}
+use Rattle.reading.specs.Keyword.{by-keyword}
 
 -- a refusal keeps the draft
 or-refused : (b : Bool) (n : ℕ) (d : Draft) (o : Outcome) → Proper d → (b ≡ false → Proper (o .draft))
@@ -137,16 +138,6 @@ module _ (d : Draft) (g : Proper d) where
       join-proper d g _ _ (known-low (d .inputs) _ i) (known-low (d .outputs) _ o)
 
   pub line-kept : (k : ℕ) (f : List (List ℕ)) → Proper (line d k f .draft)
-  unfolding line refused
-  line-kept k f =
-      go (same (word f 0) _) (same (word f 0) _) (same (word f 0) _) (same (word f 0) _) (same (word f 0) _)
-    where
-      go : (a b c e h : Bool)
-          → Proper (cond a (unitLine d f) (cond b (outLine d f) (cond c (inLine d k f) (cond e (feedLine d f)
-          (cond h (joinLine d f) (record { number = 24; draft = d }))))) .draft)
-      go true b c e h = unit-kept f
-      go false true c e h = out-kept f
-      go false false true e h = in-kept k f
-      go false false false true h = feed-kept f
-      go false false false false true = join-kept f
-      go false false false false false = g
+  unfolding refused
+  line-kept k f = by-keyword (λ o. Proper (o .draft)) d k f
+      (λ w. unit-kept f) (λ w. out-kept f) (λ w. in-kept k f) (λ w. feed-kept f) (λ w. join-kept f) g

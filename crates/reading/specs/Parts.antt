@@ -10,10 +10,13 @@ use Rattle.grammar.specs.Reading.{pairs as feedPairs}
 use Rattle.table.specs.Packed.{units, outputs, inputs, feeds, outputOwners, inputOwners, kinds, sources, pairs, asked}
 use Rattle.reading.specs.Proper.{noFeed}
 
+pub map-in : {A B : Type 0} (f : A → B) (e : A) (z : B) (xs : List A) (i : ℕ) → i < length xs → getD (map f xs) i z ≡ f (getD xs i e)
+map-in f e z [] i h = absurd (omega arith)
+map-in f e z (x ∷ xs) zero h = refl
+map-in f e z (x ∷ xs) (suc i) h = map-in f e z xs i (omega arith)
+
 pub map-at : {A : Type 0} (f : A → ℕ) (e : A) (xs : List A) (i : ℕ) → i < length xs → getD (map f xs) i 0 ≡ f (getD xs i e)
-map-at f e [] i h = absurd (omega arith)
-map-at f e (x ∷ xs) zero h = refl
-map-at f e (x ∷ xs) (suc i) h = map-at f e xs i (omega arith)
+map-at f e xs i h = map-in f e 0 xs i h
 
 pub pairs-long : (fs : List Feed) → length (feedPairs fs) ≡ 2 * length fs
 unfolding feedPairs

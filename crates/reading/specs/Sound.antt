@@ -1,30 +1,20 @@
 -- A table that is read is sound: the packed check answers 0 on what was written.
-use Prim.Native.Nat.{ℕ, suc, _-_, _<_}
-use mathlib.Core.Path.{_≡_, refl}
+use Prim.Native.Nat.{ℕ, _<_, _≤_}
+use mathlib.Core.Path.{_≡_, sym, subst}
 use mathlib.Core.Logic.{inl, inr}
-use mathlib.Core.Bool.{Bool, true, false, not, cond, _||_}
-use mathlib.Core.List.{List, [], _∷_, map}
+use mathlib.Core.List.{List, map}
 use native.Mathlib.Omega.{arith}
-use native.Mathlib.Decide.{decLt}
-use lib.ListN.{length, getD, drop, length-map}
-use lib.Dec.{eqb, ltb}
-use borrow.Author.Tests.{eqb-false, ltb-false, eq-eqb}
-use Rattle.search.specs.Truth.{clash}
+use lib.ListN.{length, getD, length-map}
 use Rattle.table.specs.Shape.{Wired}
 use Rattle.table.specs.Packed.{units, outputs, inputs, feeds, shapeOf}
 use Rattle.table.specs.Sound.{Sound}
 use Rattle.table.specs.Check.{refusal}
 use Rattle.table.specs.Checked.{sound-passed}
-use Rattle.grammar.specs.Rows.{place, rows, lineOf, firstBad}
-use Rattle.grammar.specs.Places.{place-is}
-use Rattle.grammar.specs.Draft.{Draft, Output, Input, unjoined, noInput, known, loose, blank}
-use Rattle.grammar.specs.Lines.{line}
-use Rattle.grammar.specs.Reading.{Reading, reading, lineByLine, linesFrom, ending, stopped, packed, version}
-use Rattle.grammar.specs.Reading.{pairs as feedPairs}
-use Rattle.reading.specs.Proper.{Proper, noOutput, noFeed, blank-proper}
-use Rattle.reading.specs.Kept.{line-kept}
-use Rattle.reading.specs.Parts.{map-at, pairs-long, pairs-input, pairs-output, long}
-use Rattle.reading.specs.Parts.{output-owners, input-owners, kinds-are, sources-are, pairs-are}
+use Rattle.grammar.specs.Draft.{Draft, Output, Input, noInput, loose}
+use Rattle.grammar.specs.Reading.{Reading, reading, packed, pairs as feedPairs}
+use Rattle.reading.specs.Proper.{Proper, noOutput, noFeed}
+use Rattle.reading.specs.Reads.{not-loose, text-read}
+use Rattle.reading.specs.Parts.{map-at, pairs-long, pairs-input, pairs-output, long, output-owners, input-owners, kinds-are, sources-are, pairs-are}
 
 -- ---- a proper draft with a unit, whose inputs are all joined
 module _ (d : Draft) (g : Proper d) (some : 0 < length (d .units))
@@ -115,72 +105,17 @@ module _ (d : Draft) (g : Proper d) (some : 0 < length (d .units))
     wired = packed-wired;
   }
 
--- ---- the reading
-abbrev Fine : Reading → Type 0
-Fine r = r .number ≡ 0 → Sound (r .bytes)
-
-fine-stopped : (n k : ℕ) → 0 < n → Fine (stopped n k)
-unfolding stopped
-fine-stopped n k h e = absurd (omega arith)
-
-ending-fine : (room : ℕ) (d : Draft) → Proper d → Fine (ending room d)
-unfolding ending loose known
-ending-fine room d g =
-    go (eqb (length (d .units)) 0) refl (ltb at (length (d .inputs))) refl (ltb room (length (packed d)))
-  where
-    at : ℕ
-    at = place (λ i. eqb (i .source) unjoined) (d .inputs)
-
-    joined-all : ltb at (length (d .inputs)) ≡ false → (x : ℕ) → x < length (d .inputs)
-        → getD (d .inputs) x noInput .source < length (d .outputs)
-    joined-all e x h = elim (g .sourced x h) [
-      | inr z ↦ z
-      | inl z ↦ absurd (clash (eqb (getD (d .inputs) x noInput .source) unjoined) (rw (eq-eqb _ _ z) tt)
-          (place-is (λ i. eqb (i .source) unjoined) noInput (d .inputs) .below x
-          (omega (arith, ltb-false at (length (d .inputs)) e))))
-    ]
-
-    go : (a : Bool) → eqb (length (d .units)) 0 ≡ a → (b : Bool) → ltb at (length (d .inputs)) ≡ b
-        → (c : Bool) → Fine (cond a (stopped 33 1) (cond b (stopped 31 (getD (d .inputs) at noInput .line))
-        (cond c (stopped 34 0) (record { number = 0; place = length (packed d); bytes = packed d }))))
-    go true p b q c = fine-stopped 33 1 (omega arith)
-    go false p true q c = fine-stopped 31 _ (omega arith)
-    go false p false q true = fine-stopped 34 0 (omega arith)
-    go false p false q false = λ z. packed-sound d g
-        (elim (decLt 0 (length (d .units))) [
-          | yes h ↦ h
-          | no h ↦ absurd (eqb-false (length (d .units)) 0 p (omega arith))
-        ])
-        (joined-all q)
-
-lines-fine : (room : ℕ) (d : Draft) (k : ℕ) (fs : List (List (List ℕ))) → Proper d
-    → Fine (linesFrom room d k fs)
-unfolding linesFrom stopped
-lines-fine room d k [] g = ending-fine room d g
-lines-fine room d k (f ∷ fs) g =
-    go (eqb (line d k f .number) 0) refl (lines-fine room (line d k f .draft) (suc k) fs (line-kept d g k f))
-  where
-    go : (b : Bool) → eqb (line d k f .number) 0 ≡ b → Fine (linesFrom room (line d k f .draft) (suc k) fs)
-        → Fine (cond b (linesFrom room (line d k f .draft) (suc k) fs) (stopped (line d k f .number) k))
-    go true e h = h
-    go false e h = λ z. absurd (eqb-false _ _ e z)
+-- a source of a proper draft that is there is an output
+joined-all : (d : Draft) → Proper d → length (d .inputs) ≤ loose d
+    → (x : ℕ) → x < length (d .inputs) → getD (d .inputs) x noInput .source < length (d .outputs)
+joined-all d g all x h = elim (g .sourced x h) [ inr z ↦ z | inl z ↦ absurd (not-loose d all x h z) ]
 
 -- a text that is read gives a sound table
 pub read-sound : (room : ℕ) (t : List ℕ) → reading room t .number ≡ 0 → Sound (reading room t .bytes)
-unfolding reading lineByLine
-read-sound room t =
-    go (eqb (length t) 0 || ltb 24576 (length t)) (not (eqb (getD t (length t - 1) 0) 10))
-    (ltb (firstBad t) (length t)) (eqb (version (getD (rows t) 0 [])) 0)
-  where
-    go : (a b c e : Bool)
-        → Fine (cond a (stopped 20 0) (cond b (stopped 21 (lineOf t (length t)))
-        (cond c (stopped 22 (lineOf t (firstBad t))) (cond e (stopped 23 1)
-        (linesFrom room blank 2 (drop 1 (rows t)))))))
-    go true b c e = fine-stopped 20 0 (omega arith)
-    go false true c e = fine-stopped 21 _ (omega arith)
-    go false false true e = fine-stopped 22 _ (omega arith)
-    go false false false true = fine-stopped 23 1 (omega arith)
-    go false false false false = lines-fine room blank 2 _ blank-proper
+read-sound room t e =
+    let r = text-read room t e in
+    subst (λ (z : Reading). Sound (z .bytes)) (sym (r .result))
+    (packed-sound (r .draft) (r .proper) (r .some) (joined-all (r .draft) (r .proper) (r .joined)))
 
 -- and the packed check answers 0 on it
 pub read-checked : (room : ℕ) (t : List ℕ) → reading room t .number ≡ 0 → refusal (reading room t .bytes) ≡ 0

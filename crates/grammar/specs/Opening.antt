@@ -2,10 +2,14 @@
 use Prim.Native.Nat.{ℕ}
 use mathlib.Core.Bool.{cond}
 use mathlib.Core.List.{List, [], _∷_}
 use Rattle.grammar.specs.Words.{same}
 use Rattle.grammar.specs.Rows.{word}
+
+-- a line as its fields
+abbrev pub Row : Type 0
+Row = List (List ℕ)
 
 -- "Numbers are given in line order": the lines that open with w
-unfoldable pub linesOf : List (List (List ℕ)) → List ℕ → List (List (List ℕ))
+unfoldable pub linesOf : List Row → List ℕ → List Row
 linesOf [] w = []
 linesOf (f ∷ fs) w = cond (same (word f 0) w) (f ∷ linesOf fs w) (linesOf fs w)
