@@ -5,7 +5,7 @@ use Prim.Native.Nat.{ℕ}
 use lib.ListN.{length}
 use Rattle.search.specs.Front.{fronted}
 use Rattle.table.specs.Outcome.{Outcome}
-use Rattle.table.specs.Determined.{Determined, same-answer}
+use Rattle.search.specs.Determined.{Determined, same-answer}
 use Rattle.grammar.specs.Reading.{reading}
 use Rattle.printing.specs.Listed.{listed}
 use Rattle.listing.specs.Listing.{listing}

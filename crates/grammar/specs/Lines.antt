@@ -33,8 +33,7 @@ isName w = ltb 0 (length w) && leb (length w) 16
 -- the first of the n fields after the keyword that is no name, or 0
 unfoldable pub faulty : List (List ℕ) → ℕ → ℕ
 faulty f zero = 0
-faulty f (suc n) =
-    cond (ltb 0 (faulty f n)) (faulty f n) (cond (isName (word f (suc n))) 0 (suc n))
+faulty f (suc n) = cond (ltb 0 (faulty f n)) (faulty f n) (cond (isName (word f (suc n))) 0 (suc n))
 
 -- 0 `delayed`, 1 `reactive`, 2 another word
 unfoldable pub kindOf : List ℕ → ℕ

@@ -52,8 +52,7 @@ unfoldable pub version : List (List ℕ) → ℕ
 version f = cond (eqb (length f) 2 && (same (word f 0) (ascii "cosim") && same (word f 1) (ascii "1"))) 1 0
 
 unfoldable pub lineByLine : ℕ → List (List (List ℕ)) → Reading
-lineByLine room fs =
-    cond (eqb (version (getD fs 0 [])) 0) (stopped 23 1) (linesFrom room blank 2 (drop 1 fs))
+lineByLine room fs = cond (eqb (version (getD fs 0 [])) 0) (stopped 23 1) (linesFrom room blank 2 (drop 1 fs))
 
 -- "20, 21, 22 are checked over the whole text first, then line by line"; room is the packed buffer's
 unfoldable pub reading : ℕ → List ℕ → Reading

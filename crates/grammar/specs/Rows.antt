@@ -21,8 +21,7 @@ parted (r ∷ rs) = ([] ∷ r) ∷ rs
 -- what no LF follows is no line: 21 precedes
 unfoldable pub rows : List ℕ → List (List (List ℕ))
 rows [] = []
-rows (x ∷ xs) =
-    cond (eqb x lf) (([] ∷ []) ∷ rows xs) (cond (eqb x tab) (parted (rows xs)) (grown x (rows xs)))
+rows (x ∷ xs) = cond (eqb x lf) (([] ∷ []) ∷ rows xs) (cond (eqb x tab) (parted (rows xs)) (grown x (rows xs)))
 
 -- field i of a line, from 0
 unfoldable pub word : List (List ℕ) → ℕ → List ℕ

@@ -27,5 +27,4 @@ module _ (s : Shape) where
 
 -- an unsound table is refused first, by 1 to 7 with place 0; at the start nothing has been done
 unfoldable pub verdictOf : List ℕ → List ℕ → Answer
-verdictOf t order =
-    cond (eqb (refusal t) 0) (verdictFrom (shapeOf t) none order 0) (answer (refusal t) 0)
+verdictOf t order = cond (eqb (refusal t) 0) (verdictFrom (shapeOf t) none order 0) (answer (refusal t) 0)

@@ -6,7 +6,7 @@ use lib.ListN.{length}
 use Rattle.search.specs.Front.{fronted}
 use Rattle.table.specs.declared.Answer.{Answer}
 use Rattle.table.specs.Outcome.{Outcome}
-use Rattle.table.specs.Determined.{Determined}
+use Rattle.search.specs.Determined.{Determined}
 use Rattle.printing.specs.Listed.{listed}
 use Rattle.printing.specs.Determined.{put-determined, put-leaves}
 use Rattle.listing.specs.Listing.{listing}

@@ -23,8 +23,7 @@ module _ (N : ℕ) (pred : ℕ → ℕ → Bool) where
   -- at each of at most n places the lowest ready call
   unfoldable pub sort : ℕ → (ℕ → Bool) → List ℕ
   sort zero done = []
-  sort (suc n) done =
-      cond (ltb (nextCall done) N) (nextCall done ∷ sort n (add (nextCall done) done)) []
+  sort (suc n) done = cond (ltb (nextCall done) N) (nextCall done ∷ sort n (add (nextCall done) done)) []
 
   -- all that can be placed, in its order
   unfoldable pub placed : List ℕ

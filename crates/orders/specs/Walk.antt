@@ -25,8 +25,7 @@ module _ (N : ℕ) (pred : ℕ → ℕ → Bool) (done : ℕ → Bool) where
   -- n bounds the visits: of N + 1 calls one is met again
   unfoldable pub walk : ℕ → List ℕ → ℕ → List ℕ
   walk zero seen c = []
-  walk (suc n) seen c =
-      cond (ltb c N) (cond (among seen c) (upto c seen) (walk n (c ∷ seen) (lowestBefore c))) []
+  walk (suc n) seen c = cond (ltb c N) (cond (among seen c) (upto c seen) (walk n (c ∷ seen) (lowestBefore c))) []
 
   -- "the lowest remaining call"; N where none remains
   unfoldable pub lowestLeft : ℕ

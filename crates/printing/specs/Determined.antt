@@ -6,7 +6,7 @@ use lib.ListN.{length}
 use Rattle.search.specs.Front.{fronted}
 use Rattle.table.specs.declared.Answer.{Answer}
 use Rattle.table.specs.Outcome.{Outcome}
-use Rattle.table.specs.Determined.{Determined, same-answer}
+use Rattle.search.specs.Determined.{Determined, same-answer}
 use Rattle.printing.specs.Listed.{listed}
 
 -- of `put_calls` at the text of calls, of `put_refusal` at that of a refusal, of `put_outcome` at either

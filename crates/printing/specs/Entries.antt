@@ -29,8 +29,7 @@ module _ (units outputs inputs : List (List (List ℕ))) where
   -- a line for each call, the first at place k
   unfoldable pub entries : ℕ → List ℕ → List ℕ
   entries k [] = []
-  entries k (c ∷ cs) =
-      entry k (callIn (length units) (length outputs) (length inputs) c) ++ entries (suc k) cs
+  entries k (c ∷ cs) = entry k (callIn (length units) (length outputs) (length inputs) c) ++ entries (suc k) cs
 
   -- "`order` and N, then per call", "`cycle` and its length, then lines alike"
   unfoldable pub callsText : List ℕ → List ℕ → List ℕ

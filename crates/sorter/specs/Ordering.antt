@@ -18,8 +18,7 @@ shownOf t = shown (callCount t) (precedes (shapeOf t)) (among (placedOf t))
 
 -- 9 with the cycle's length; 10 "nothing ready and no cycle found", which no table gives (`order-else` of Demand)
 unfoldable pub stopped : List ℕ → Outcome
-stopped t =
-    cond (eqb (length (shownOf t)) 0) (outcome 10 0 []) (outcome 9 (length (shownOf t)) (shownOf t))
+stopped t = cond (eqb (length (shownOf t)) 0) (outcome 10 0 []) (outcome 9 (length (shownOf t)) (shownOf t))
 
 -- 0 with N where all were placed
 unfoldable pub settled : List ℕ → Outcome

@@ -42,8 +42,7 @@ isPair ps k input output = eqb (pairInput ps k) input && eqb (pairOutput ps k) o
 -- pair k names an input and an output, and their owners are one
 unfoldable pub feedKnown : List ℕ → List ℕ → List ℕ → ℕ → Bool
 feedKnown outs ins ps k =
-    ltb (pairInput ps k) (length ins)
-    && (ltb (pairOutput ps k) (length outs)
+    ltb (pairInput ps k) (length ins) && (ltb (pairOutput ps k) (length outs)
     && eqb (getD ins (pairInput ps k) 0) (getD outs (pairOutput ps k) 0))
 
 -- pair k was given before
@@ -54,9 +53,7 @@ feedAgain ps k = some (λ j. isPair ps j (pairInput ps k) (pairOutput ps k)) k
 unfoldable pub feedsFrom : List ℕ → List ℕ → List ℕ → ℕ → ℕ → ℕ
 feedsFrom outs ins ps zero k = 0
 feedsFrom outs ins ps (suc n) k =
-    refuse (not (feedKnown outs ins ps k)) 6
-    (refuse (feedAgain ps k) 7
-    (feedsFrom outs ins ps n (suc k)))
+    refuse (not (feedKnown outs ins ps k)) 6 (refuse (feedAgain ps k) 7 (feedsFrom outs ins ps n (suc k)))
 
 -- output owners; input owners; kinds; sources; feeds
 unfoldable pub wiring : List ℕ → ℕ

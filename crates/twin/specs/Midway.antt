@@ -20,7 +20,7 @@ use Rattle.judging.specs.Passes.{Allows, Meets, Passes}
 use Rattle.judging.specs.Met.{meets-call}
 use Rattle.judging.specs.Judged.{passes-head, passes-tail}
 use Rattle.twin.specs.Rules.{pick, ofUnit, feeding, Rules}
-use Rattle.twin.specs.Run.{Held, World, moved, state, inputValue, outputValue, acts, run}
+use Rattle.twin.specs.Run.{Held, World, moved, acts, run}
 use Rattle.twin.specs.Equations.{Solves}
 
 pub pick-same : {Val : Type 0} (q : ℕ → Bool) (n k : ℕ) (f g : ℕ → Val)
@@ -48,9 +48,10 @@ module _ {Val : Type 0} (w : World Val) (a : ℕ) (v : Val) where
 module _ {Val : Type 0} (s : Shape) (m : Rules Val) where
   -- what a call gives its own unit or port
   abbrev pub gives : World Val → Call → Val → Val
-  gives w (Step u) v = m .stepRule u (state w u) (ofUnit s u (inputValue s w))
-  gives w (Get y) v = m .outputRule y (state w (s .outputOwner y)) (feeding s y (inputValue s w))
-  gives w (Set x) v = outputValue s w (s .source x)
+  gives w (Step u) v = m .stepRule u (w (stepNo u) .value) (ofUnit s u (λ x. w (setNo s x) .value))
+  gives w (Get y) v =
+      m .outputRule y (w (stepNo (s .outputOwner y)) .value) (feeding s y (λ x. w (setNo s x) .value))
+  gives w (Set x) v = w (getNo s (s .source x)) .value
   gives w NoCall v = v
 
   -- a call moves what stands at its own number

@@ -22,25 +22,17 @@ World Val = ℕ → Held Val
 abbrev pub moved : {Val : Type 0} → World Val → ℕ → Val → World Val
 moved w a v b = cond (eqb b a) (record { value = v; time = suc (w a .time) }) (w b)
 
--- the values as they stand
-abbrev pub state : {Val : Type 0} → World Val → ℕ → Val
-state w u = w (stepNo u) .value
-
-abbrev pub outputValue : {Val : Type 0} → Shape → World Val → ℕ → Val
-outputValue s w y = w (getNo s y) .value
-
-abbrev pub inputValue : {Val : Type 0} → Shape → World Val → ℕ → Val
-inputValue s w x = w (setNo s x) .value
-
 module _ {Val : Type 0} (s : Shape) (m : Rules Val) where
   abbrev pub acts : World Val → Call → World Val
   -- a step applies the step rule to the inputs as they then stand
-  acts w (Step u) = moved w (stepNo u) (m .stepRule u (state w u) (ofUnit s u (inputValue s w)))
+  acts w (Step u) =
+      moved w (stepNo u) (m .stepRule u (w (stepNo u) .value) (ofUnit s u (λ x. w (setNo s x) .value)))
   -- a get applies the output's rule
   acts w (Get y) =
-      moved w (getNo s y) (m .outputRule y (state w (s .outputOwner y)) (feeding s y (inputValue s w)))
+      moved w (getNo s y)
+      (m .outputRule y (w (stepNo (s .outputOwner y)) .value) (feeding s y (λ x. w (setNo s x) .value)))
   -- a set copies the source's value
-  acts w (Set x) = moved w (setNo s x) (outputValue s w (s .source x))
+  acts w (Set x) = moved w (setNo s x) (w (getNo s (s .source x)) .value)
   acts w NoCall = w
 
   -- the calls of a list in turn
