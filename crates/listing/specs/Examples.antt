@@ -17,7 +17,7 @@ use Rattle.table.specs.Packed.{
   asked,
 }
 use Rattle.table.specs.Check.{
-  orElse,
+  refuse as checkRefuse,
   countsIn,
   allBelow,
   isPair,
@@ -31,9 +31,7 @@ use Rattle.calls.specs.Number.{callIn}
 use Rattle.calls.specs.Precedence.{
   feedsTo,
   hasKind,
-  stepBefore,
-  getBefore,
-  setBefore,
+  byKind,
   before,
   precedes,
 }
@@ -52,11 +50,7 @@ use Rattle.grammar.specs.Draft.{
   inputNamed,
   feedOf,
   loose,
-  isUnit,
-  isOutput,
-  isInput,
-  isFeed,
-  sourceOf,
+  known,
   addUnit,
   addOutput,
   addInput,
@@ -82,7 +76,6 @@ use Rattle.grammar.specs.Reading.{
   stopped,
   pairs,
   packed,
-  written,
   ending,
   linesFrom,
   version,
@@ -124,12 +117,12 @@ pub examples :
     × (listing (ascii "cosim\t1\nout\tpump\tflow\n") ≡ ascii "refused\t27\t2\n")
     × (listing [] ≡ ascii "refused\t20\t0\n")
 unfolding every some leastFrom units outputs inputs feeds outputOwners inputOwners kinds sources
-    feedBytes asked orElse countsIn allBelow isPair feedKnown feedAgain feedsFrom wiring refusal callIn
-    feedsTo hasKind stepBefore getBefore setBefore before precedes ready nextCall sort placed upto
+    feedBytes asked checkRefuse countsIn allBelow isPair feedKnown feedAgain feedsFrom wiring refusal callIn
+    feedsTo hasKind byKind before precedes ready nextCall sort placed upto
     lowestBefore walk lowestLeft met lowestOf lowestPlace shown placedOf shownOf shownOrNot settled
     ordering allowed same grown parted rows word place times lineOf firstBad blank unitNamed outputNamed
-    inputNamed feedOf loose isUnit isOutput isInput isFeed sourceOf addUnit addOutput addInput addFeed
+    inputNamed feedOf loose known addUnit addOutput addInput addFeed
     joined addJoin refused refuse taken isName faulty kindOf unitLine outLine inLine feedLine joinLine
-    line stopped pairs packed written ending linesFrom version lineByLine reading linesOf decimal spell
+    line stopped pairs packed ending linesFrom version lineByLine reading linesOf decimal spell
     printed entry entries callsText refusalText outcomeText listing
 examples = (refl, refl, refl, refl)
