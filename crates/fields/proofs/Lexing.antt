@@ -63,6 +63,7 @@ module _ {t : List ℕ} {a : ℕ} {l : Fields} {at : ℕ} (g : Lexing t a l at) 
           few = omega (arith, g .few, lexing-low);
           lost = λ n. g .lost (row-lost t at within c (rw p at n));
           left = λ s.
-              let r : rowAt t at ≡ fieldAt t at ∷ rowAt t (e + 1) = rw p (row-parts t at within c (rw p at s)) in
+              let r : rowAt t at ≡ fieldAt t at ∷ rowAt t (e + 1) =
+              rw p (row-parts t at within c (rw p at s)) in
               g .left (rw r (omega arith)) ∙ ap (λ fs. spans at fs l) r ∙ one (rowAt t (e + 1));
         }

@@ -24,7 +24,8 @@ Told t a l = Lexed t a (l .from) (l .to) (l .count) (l .next)
 module _ (xs : List ℕ) (n v : ℕ) (r : length xs ≡ 5) where
   pub keep-long : length (keep xs n v) ≡ 5
   unfolding keep
-  keep-long = elim (decLt n 5) [ yes h ↦ rw (lt-leb 5 n h, length-set) r | no h ↦ rw (le-leb 5 n (omega arith)) r ]
+  keep-long =
+      elim (decLt n 5) [ yes h ↦ rw (lt-leb 5 n h, length-set) r | no h ↦ rw (le-leb 5 n (omega arith)) r ]
 
   pub keep-new : n < 5 → getD (keep xs n v) n 0 ≡ v
   unfolding keep

@@ -37,7 +37,8 @@ ending-fair room d =
 lines-fair : (room : ℕ) (d : Draft) (k : ℕ) (fs : List (List (List ℕ))) → Fair (linesFrom room d k fs)
 unfolding linesFrom
 lines-fair room d k [] = ending-fair room d
-lines-fair room d k (f ∷ fs) = go (eqb (line d k f .number) 0) refl (lines-fair room (line d k f .draft) (suc k) fs)
+lines-fair room d k (f ∷ fs) =
+    go (eqb (line d k f .number) 0) refl (lines-fair room (line d k f .draft) (suc k) fs)
   where
     go :
         (b : Bool) → eqb (line d k f .number) 0 ≡ b → Fair (linesFrom room (line d k f .draft) (suc k) fs) →

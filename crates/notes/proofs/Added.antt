@@ -38,8 +38,10 @@ module _ (t p s : List ℕ) (c : Counts) (f : Fit t p s c) where
           (λ i g. n .slots-kept (224 + i) (225 + i) (λ j a z e. omega arith) (λ j a z e. omega arith) .at (224 + i)
           (omega arith) (omega arith) ∙ f .units-free i g)
           (n .owner);
-      outputs-marked = λ i g. n .others (32 + i) (omega (arith, f .outputs-most)) (λ e. omega arith) (f .outputs-marked i g);
-      inputs-marked = λ i g. n .others (128 + i) (omega (arith, f .inputs-most)) (λ e. omega arith) (f .inputs-marked i g);
+      outputs-marked =
+          λ i g. n .others (32 + i) (omega (arith, f .outputs-most)) (λ e. omega arith) (f .outputs-marked i g);
+      inputs-marked =
+          λ i g. n .others (128 + i) (omega (arith, f .inputs-most)) (λ e. omega arith) (f .inputs-marked i g);
     }
 
     pub unit-noted : Stands t q r moreUnits (addUnit (draftOf t p s c) (fieldAt t b))
@@ -77,12 +79,18 @@ module _ (t p s : List ℕ) (c : Counts) (f : Fit t p s c) where
       outputs-most = omega arith;
       inputs-most = f .inputs-most;
       feeds-most = f .feeds-most;
-      units-marked = λ i g. n .others i (omega (arith, f .units-most)) (λ e. omega (arith, f .units-most)) (f .units-marked i g);
-      units-free = λ i g. n .slots-kept (224 + i) (225 + i) (λ j a z e. omega (arith, f .units-most)) (λ j a z e. omega (arith, f .units-most)) .at (224 + i)
+      units-marked =
+          λ i g.
+          n .others i (omega (arith, f .units-most)) (λ e. omega (arith, f .units-most)) (f .units-marked i g);
+      units-free =
+          λ i g.
+          n .slots-kept (224 + i) (225 + i) (λ j a z e. omega (arith, f .units-most))
+          (λ j a z e. omega (arith, f .units-most)) .at (224 + i)
           (omega arith) (omega arith) ∙ f .units-free i g;
       outputs-marked = below-more _ _
           (λ i g. n .others (32 + i) (omega arith) (λ e. omega arith) (f .outputs-marked i g)) (n .marked);
-      inputs-marked = λ i g. n .others (128 + i) (omega (arith, f .inputs-most)) (λ e. omega arith) (f .inputs-marked i g);
+      inputs-marked =
+          λ i g. n .others (128 + i) (omega (arith, f .inputs-most)) (λ e. omega arith) (f .inputs-marked i g);
     }
 
     pub output-noted : Stands t q r moreOutputs (addOutput (draftOf t p s c) (record { owner = u; name = fieldAt t b }))
@@ -152,7 +160,10 @@ module _ (t p s : List ℕ) (c : Counts) (f : Fit t p s c) where
       feeds-most = f .feeds-most;
       units-marked = λ i g. marks-stay i (omega (arith, f .units-most))
           (n .others i (omega (arith, f .units-most)) (λ e. omega (arith, f .units-most)) (f .units-marked i g));
-      units-free = λ i g. slots-stay (224 + i) (225 + i) (λ j a z e. omega (arith, f .units-most)) (λ j a z e. omega (arith, f .units-most))
+      units-free =
+          λ i g.
+          slots-stay (224 + i) (225 + i) (λ j a z e. omega (arith, f .units-most))
+          (λ j a z e. omega (arith, f .units-most))
           (λ j a z e. omega (arith, f .units-most)) (λ j a z e. omega (arith, f .units-most)) .at (224 + i)
           (omega arith) (omega arith) ∙ f .units-free i g;
       outputs-marked = λ i g. marks-stay (32 + i) (omega (arith, f .outputs-most))
@@ -222,8 +233,10 @@ module _ (t p s : List ℕ) (c : Counts) (f : Fit t p s c) where
       inputs-most = rw d (f .inputs-most);
       feeds-most = e;
       units-marked = λ i g. still i (omega (arith, f .units-most)) (f .units-marked i (omega arith));
-      units-free = λ i g. k .at (224 + i) (omega arith) (omega (arith, f .units-most)) ∙ f .units-free i (omega arith);
-      outputs-marked = λ i g. still (32 + i) (omega (arith, f .outputs-most)) (f .outputs-marked i (omega arith));
+      units-free =
+          λ i g. k .at (224 + i) (omega arith) (omega (arith, f .units-most)) ∙ f .units-free i (omega arith);
+      outputs-marked =
+          λ i g. still (32 + i) (omega (arith, f .outputs-most)) (f .outputs-marked i (omega arith));
       inputs-marked = λ i g. still (128 + i) (omega (arith, f .inputs-most)) (f .inputs-marked i (omega arith));
     }
       where

@@ -27,7 +27,8 @@ module _ (t p s q r : List ℕ) where
 
   pub output-kept : (y : ℕ) → Kept (32 + y) (33 + y) p q → Kept (256 + y) (257 + y) s r → outputAt t q r y ≡ outputAt t p s y
   unfolding outputAt nameAt
-  output-kept y a b = rw (a .at (32 + y) (omega arith) (omega arith), b .at (256 + y) (omega arith) (omega arith))
+  output-kept y a b =
+      rw (a .at (32 + y) (omega arith) (omega arith), b .at (256 + y) (omega arith) (omega arith))
 
   pub outputs-kept : (n : ℕ) → Kept 32 (32 + n) p q → Kept 256 (256 + n) s r
       → listed (outputAt t q r) n ≡ listed (outputAt t p s) n

@@ -76,7 +76,9 @@ module _ (t : List ℕ) (i j : ℕ) (o : Open t i) where
   pub along : j < length t → getD t i 0 ≡ getD t j 0 → same (fieldAt t i) (fieldAt t j) ≡ same (fieldAt t (i + 1)) (fieldAt t (j + 1))
   unfolding same
   along h e =
-      let p : Open t j = record { inside = h; not-lf = ap (λ x. eqb x 10) (sym e) ∙ o .not-lf; not-tab = ap (λ x. eqb x 9) (sym e) ∙ o .not-tab } in
+      let p : Open t j =
+      record
+      { inside = h; not-lf = ap (λ x. eqb x 10) (sym e) ∙ o .not-lf; not-tab = ap (λ x. eqb x 9) (sym e) ∙ o .not-tab } in
       rw (open-field t i o, open-field t j p, eq-eqb _ _ e)
 
   pub differs : j < length t → (getD t i 0 ≡ getD t j 0 → ⊥) → false ≡ same (fieldAt t i) (fieldAt t j)

@@ -64,7 +64,8 @@ listed-map h f (suc n) = mathlib.Core.List.map-append h (listed f n) (f n ∷ []
 -- a stretch of a list, element by element
 pub listed-part : (xs : List ℕ) (b n : ℕ) → b + n ≤ length xs → listed (λ i. getD xs (b + i) 0) n ≡ take n (drop b xs)
 listed-part xs b n h =
-    let l : length (take n (drop b xs)) ≡ n = length-take-le n (drop b xs) (rw (length-drop b xs) (omega arith)) in
+    let l : length (take n (drop b xs)) ≡ n =
+    length-take-le n (drop b xs) (rw (length-drop b xs) (omega arith)) in
     ext-getD 0 (listed (λ i. getD xs (b + i) 0) n) (take n (drop b xs)) (listed-length (λ i. getD xs (b + i) 0) n ∙ sym l)
     (λ i g. let k : i < n = (rw (listed-length (λ i. getD xs (b + i) 0) n) at g) in
     listed-at (λ i. getD xs (b + i) 0) n i 0 k ∙ sym (getD-take n (drop b xs) i 0 k ∙ getD-drop b xs i 0))

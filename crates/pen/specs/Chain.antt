@@ -62,9 +62,12 @@ over-more out at s r h =
     let front = take at out in
     let tail = drop (at + length s) out in
     let e : front ++ (s ++ tail) ≡ (front ++ s) ++ tail = sym (append-assoc front s tail) in
-    let l : length (front ++ s) ≡ at + length s = length-append front s ∙ ap (λ n. n + length s) (length-take-le at out (omega arith)) in
-    let t : take (at + length s) (front ++ (s ++ tail)) ≡ front ++ s = ap (take (at + length s)) e ∙ take-at (front ++ s) tail (at + length s) l in
-    let d : drop (at + length s) (front ++ (s ++ tail)) ≡ tail = ap (drop (at + length s)) e ∙ drop-at (front ++ s) tail (at + length s) l in
+    let l : length (front ++ s) ≡ at + length s =
+    length-append front s ∙ ap (λ n. n + length s) (length-take-le at out (omega arith)) in
+    let t : take (at + length s) (front ++ (s ++ tail)) ≡ front ++ s =
+    ap (take (at + length s)) e ∙ take-at (front ++ s) tail (at + length s) l in
+    let d : drop (at + length s) (front ++ (s ++ tail)) ≡ tail =
+    ap (drop (at + length s)) e ∙ drop-at (front ++ s) tail (at + length s) l in
     let n : at + length s + length r ≡ at + length (s ++ r) = omega (arith, length-append s r) in
     let f : drop (at + length s + length r) (front ++ (s ++ tail)) ≡ drop (at + length (s ++ r)) out =
     sym (drop-drop (length r) (at + length s) (front ++ (s ++ tail))) ∙ ap (drop (length r)) d

@@ -91,7 +91,8 @@ module _ (d : Draft) (g : Proper d) where
         outputs-most = omega arith;
         inputs-most = g .inputs-most;
         feeds-most = g .feeds-most;
-        output-owned = each-more (λ z. z .owner < length (d .units)) (d .outputs) o noOutput (g .output-owned) p;
+        output-owned =
+            each-more (λ z. z .owner < length (d .units)) (d .outputs) o noOutput (g .output-owned) p;
         input-owned = g .input-owned;
         kind-known = g .kind-known;
         sourced = λ i h. elim (g .sourced i h) [ inl z ↦ inl z | inr z ↦ inr (omega arith) ];
@@ -115,7 +116,8 @@ module _ (d : Draft) (g : Proper d) where
         output-owned = g .output-owned;
         input-owned = each-more (λ z. z .owner < length (d .units)) (d .inputs) i noInput (g .input-owned) p;
         kind-known = each-more (λ z. z .kind ≤ 1) (d .inputs) i noInput (g .kind-known) r;
-        sourced = each-more (λ z. (z .source ≡ unjoined) ⊎ (z .source < length (d .outputs))) (d .inputs) i noInput
+        sourced =
+            each-more (λ z. (z .source ≡ unjoined) ⊎ (z .source < length (d .outputs))) (d .inputs) i noInput
             (g .sourced) (inl s);
         feed-input = λ j h. omega (arith, g .feed-input j h);
         feed-output = g .feed-output;
@@ -188,7 +190,8 @@ module _ (d : Draft) (g : Proper d) where
           output-owned = g .output-owned;
           input-owned = set-each (λ z. z .owner < length (d .units)) (g .input-owned) (g .input-owned x h);
           kind-known = set-each (λ z. z .kind ≤ 1) (g .kind-known) (g .kind-known x h);
-          sourced = set-each (λ z. (z .source ≡ unjoined) ⊎ (z .source < length (d .outputs))) (g .sourced) (inr l);
+          sourced =
+              set-each (λ z. (z .source ≡ unjoined) ⊎ (z .source < length (d .outputs))) (g .sourced) (inr l);
           feed-input = λ k m. rw q (g .feed-input k m);
           feed-output = g .feed-output;
           feed-unit = λ k m. set-owner (getD (d .feeds) k noFeed .input) ∙ g .feed-unit k m;

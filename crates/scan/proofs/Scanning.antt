@@ -16,7 +16,8 @@ use Rattle.grammar.specs.Places.{place-least}
 
 pub bad-least : (t : List ℕ) → firstBad t ≡ leastFrom (λ i. not (allowed (getD t i 0))) (length t) 0
 unfolding firstBad
-bad-least t = place-least (λ b. not (allowed b)) 0 t (λ i. not (allowed (getD t i 0))) (length t) refl (λ i h. refl)
+bad-least t =
+    place-least (λ b. not (allowed b)) 0 t (λ i. not (allowed (getD t i 0))) (length t) refl (λ i h. refl)
 
 times-append : (c x : ℕ) (xs : List ℕ) → times c (xs ++ (x ∷ [])) ≡ times c xs + cond (eqb x c) 1 0
 unfolding times
@@ -34,7 +35,9 @@ times-append c x (y ∷ ys) = go (eqb y c) (times-append c x ys)
 
 module _ (t : List ℕ) (i n : ℕ) (h : i < length t) (e : n ≡ times lf (take i t)) where
   one-more : times lf (take (i + 1) t) ≡ n + cond (eqb (getD t i 0) lf) 1 0
-  one-more = rw (add-one i, take-suc t i 0 h) (times-append lf (getD t i 0) (take i t) ∙ ap (λ k. k + cond (eqb (getD t i 0) lf) 1 0) (sym e))
+  one-more =
+      rw (add-one i, take-suc t i 0 h)
+      (times-append lf (getD t i 0) (take i t) ∙ ap (λ k. k + cond (eqb (getD t i 0) lf) 1 0) (sym e))
 
   pub counts : getD t i 0 ≡ 10 → n + 1 ≡ times lf (take (i + 1) t)
   counts q = sym (one-more ∙ rw (eq-eqb _ _ q))
@@ -45,7 +48,15 @@ module _ (t : List ℕ) (i n : ℕ) (h : i < length t) (e : n ≡ times lf (take
 module _ (b : ℕ) where
   pub letter : 97 ≤ b → leb b 122 ≡ allowed b
   unfolding allowed
-  letter h = rw (le-leb 97 b h, le-leb 48 b (omega arith), lt-leb b 57 (omega arith), ne-eqb b 95 (λ e. omega arith), ne-eqb b 9 (λ e. omega arith), ne-eqb b 10 (λ e. omega arith)) (go (leb b 122))
+  letter h =
+      rw (
+        le-leb 97 b h,
+        le-leb 48 b (omega arith),
+        lt-leb b 57 (omega arith),
+        ne-eqb b 95 (λ e. omega arith),
+        ne-eqb b 9 (λ e. omega arith),
+        ne-eqb b 10 (λ e. omega arith),
+      ) (go (leb b 122))
     where
       go : (x : Bool) → x ≡ (x || false)
       go true = refl
@@ -59,7 +70,14 @@ module _ (b : ℕ) where
     module _ (n : b ≡ 95 → ⊥) where
       pub digit : 48 ≤ b → leb b 57 ≡ allowed b
       unfolding allowed
-      digit g = rw (lt-leb 97 b h, le-leb 48 b g, ne-eqb b 95 n, ne-eqb b 9 (λ e. omega arith), ne-eqb b 10 (λ e. omega arith)) (go (leb b 57))
+      digit g =
+          rw (
+            lt-leb 97 b h,
+            le-leb 48 b g,
+            ne-eqb b 95 n,
+            ne-eqb b 9 (λ e. omega arith),
+            ne-eqb b 10 (λ e. omega arith),
+          ) (go (leb b 57))
         where
           go : (x : Bool) → x ≡ (x || false)
           go true = refl

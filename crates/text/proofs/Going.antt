@@ -94,7 +94,8 @@ none-fits t p s h g = record {
 pub going-starts : (t : List ℕ) (a : ℕ) (p s : List ℕ) → length p ≡ 320 → length s ≡ 896 → a ≤ length t
     → Going t a p s noneYet a 2
 unfolding draftOf blank listed
-going-starts t a p s h g w = record { fit = none-fits t p s h g; within = w; low = omega arith; left = λ room. refl }
+going-starts t a p s h g w =
+    record { fit = none-fits t p s h g; within = w; low = omega arith; left = λ room. refl }
 
 module _ (t : List ℕ) (a : ℕ) (p s : List ℕ) (c : Counts) (at k : ℕ) (g : Going t a p s c at k) where
   module _ (l : Fields) (told : Told t at l) (q r : List ℕ) (o : Taken)
@@ -132,4 +133,5 @@ module _ (t : List ℕ) (a : ℕ) (p s : List ℕ) (c : Counts) (at k : ℕ) (g 
 
 -- the fields that are read at a place of an ended text are told right
 pub told-fields : (t : List ℕ) (at : ℕ) (l : Fields) → Ended t → at < length t → l ≡ fieldsAt t at → Told t at l
-told-fields t at l e h q = subst (Told t at) (sym q) (fields-told t at (omega (arith, e .short)) (row-some t at e h))
+told-fields t at l e h q =
+    subst (Told t at) (sym q) (fields-told t at (omega (arith, e .short)) (row-some t at e h))

@@ -26,7 +26,8 @@ fit-slotted t p s c f = record {
 }
 
 slots-are : (s : List ℕ) (b n : ℕ) → b + n ≤ length s → listed (λ i. getD s (b + i) 0) n ≡ slotsFrom s b n
-slots-are s b n h = listed-part s b n h ∙ ap (λ k. take k (drop b s)) (let z : n ≡ (b + n) - b = omega arith in z)
+slots-are s b n h =
+    listed-part s b n h ∙ ap (λ k. take k (drop b s)) (let z : n ≡ (b + n) - b = omega arith in z)
 
 pub slots-long : (s : List ℕ) (b n : ℕ) → b + n ≤ length s → length (slotsFrom s b n) ≡ n
 slots-long s b n h =

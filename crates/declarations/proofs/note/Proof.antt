@@ -8,13 +8,25 @@ use borrow.Author.Tests.{not-true, not-false}
 use Rattle.declarations.proofs.Noting.{turn-kept, turn-noted, line-small, line-further, line-inside}
 
 opens-requires : tie.Need-opens-requires
-opens-requires c κs = (c .before .before .before .pre .0, line-small _ _ _ (c .before .before .before .pre .0) (c .before .before .before .pre .1))
+opens-requires c κs = (
+  c .before .before .before .pre .0,
+  line-small _ _ _ (c .before .before .before .pre .0) (c .before .before .before .pre .1),
+)
 
 returns : tie.Need-returns
 returns c = turn-kept _ _ _ _ _ (sym (c .before .opens .ensures) ∙ not-true _ (c .if1 .taken))
 
 cast-places : tie.Need-cast-places
-cast-places c = omega (arith, line-small _ _ _ (c .before .before .before .before .before .pre .0) (c .before .before .before .before .before .pre .1), line-further _ _ _ (c .before .before .before .before .before .pre .0) (c .before .before .before .before .before .pre .1), line-inside _ _ _ (c .before .before .before .before .before .pre .0) (c .before .before .before .before .before .pre .1))
+cast-places c =
+    omega (
+      arith,
+      line-small _ _ _ (c .before .before .before .before .before .pre .0)
+          (c .before .before .before .before .before .pre .1),
+      line-further _ _ _ (c .before .before .before .before .before .pre .0)
+          (c .before .before .before .before .before .pre .1),
+      line-inside _ _ _ (c .before .before .before .before .before .pre .0)
+          (c .before .before .before .before .before .pre .1),
+    )
 
 mul-places : tie.Need-mul-places
 mul-places c = search needs

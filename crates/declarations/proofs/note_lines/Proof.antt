@@ -23,19 +23,37 @@ same-length : tie.Need-same-length Inv-loop μ-loop
 same-length c = c .before .before .before .before .loop .inv .noted .long
 
 returns : tie.Need-returns Inv-loop μ-loop
-returns c = noting-ends (c .before .before .before .before .loop .inv) (c .before .before .fields-at .ensures) (c .if1 .taken)
+returns c =
+    noting-ends (c .before .before .before .before .loop .inv) (c .before .before .fields-at .ensures)
+    (c .if1 .taken)
 
 note-requires : tie.Need-note-requires Inv-loop μ-loop
-note-requires c κs = (c .before .before .before .fields-at .ensures, omega (arith, c .before .if1 .left), c .before .before .before .before .loop-test .taken)
+note-requires c κs = (
+  c .before .before .before .fields-at .ensures,
+  omega (arith, c .before .if1 .left),
+  c .before .before .before .before .loop-test .taken,
+)
 
 cast-a : tie.Need-cast-a Inv-loop μ-loop
 cast-a c = search needs
 
 loop-less : tie.Need-loop-less Inv-loop μ-loop
-loop-less c = omega (arith, line-further _ _ _ (c .before .before .before .before .before .before .before .fields-at .ensures) (omega (arith, c .before .before .before .before .before .if1 .left)), line-inside _ _ _ (c .before .before .before .before .before .before .before .fields-at .ensures) (omega (arith, c .before .before .before .before .before .if1 .left)))
+loop-less c =
+    omega (
+      arith,
+      line-further _ _ _ (c .before .before .before .before .before .before .before .fields-at .ensures)
+          (omega (arith, c .before .before .before .before .before .if1 .left)),
+      line-inside _ _ _ (c .before .before .before .before .before .before .before .fields-at .ensures)
+          (omega (arith, c .before .before .before .before .before .if1 .left)),
+    )
 
 loop-again : tie.Need-loop-again Inv-loop μ-loop
-loop-again c = noting-on (c .before .before .before .before .before .before .before .before .before .loop .inv) (c .before .before .before .before .before .before .before .fields-at .ensures) (omega (arith, c .before .before .before .before .before .if1 .left)) (c .before .before .before .before .before .before .before .before .loop-test .taken) (c .before .before .before .note .ensures)
+loop-again c =
+    noting-on (c .before .before .before .before .before .before .before .before .before .loop .inv)
+    (c .before .before .before .before .before .before .before .fields-at .ensures)
+    (omega (arith, c .before .before .before .before .before .if1 .left))
+    (c .before .before .before .before .before .before .before .before .loop-test .taken)
+    (c .before .before .before .note .ensures)
 
 same-length-2 : tie.Need-same-length-2 Inv-loop μ-loop
 same-length-2 c = c .before .loop .inv .noted .long

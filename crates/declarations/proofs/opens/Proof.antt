@@ -20,20 +20,36 @@ cast-to : tie.Need-cast-to
 cast-to c = search needs
 
 sub-same : tie.Need-sub-same
-sub-same c = omega (arith, first-part (c .before .before .before .before .pre .0) (c .before .before .before .before .pre .1) .order)
+sub-same c =
+    omega (
+      arith,
+      first-part (c .before .before .before .before .pre .0) (c .before .before .before .before .pre .1) .order,
+    )
 
 part-same-start : tie.Need-part-same-start
-part-same-start c = omega (arith, first-part (c .before .before .before .before .pre .0) (c .before .before .before .before .pre .1) .order)
+part-same-start c =
+    omega (
+      arith,
+      first-part (c .before .before .before .before .pre .0) (c .before .before .before .before .pre .1) .order,
+    )
 
 part-same-end : tie.Need-part-same-end
-part-same-end c = omega (arith, first-part (c .before .before .before .before .pre .0) (c .before .before .before .before .pre .1) .order, first-part (c .before .before .before .before .pre .0) (c .before .before .before .before .pre .1) .within)
+part-same-end c =
+    omega (
+      arith,
+      first-part (c .before .before .before .before .pre .0) (c .before .before .before .before .pre .1) .order,
+      first-part (c .before .before .before .before .pre .0) (c .before .before .before .before .pre .1) .within,
+    )
 
 same-requires : tie.Need-same-requires
 same-requires c κs = search needs
 
 returns : tie.Need-returns
 unfolding stretch
-returns c = rw (← first-part (c .before .before .before .before .before .before .pre .0) (c .before .before .before .before .before .before .pre .1) .bytes) (c .same .ensures)
+returns c =
+    rw
+    (← first-part (c .before .before .before .before .before .before .pre .0)
+    (c .before .before .before .before .before .before .pre .1) .bytes) (c .same .ensures)
 
 pub opens-spec : {M : Type 1} → statement M
 opens-spec =

@@ -33,25 +33,56 @@ none-requires-3 : tie.Need-none-requires-3 Inv-loop μ-loop
 none-requires-3 c κs = search needs
 
 returns-2 : tie.Need-returns-2 Inv-loop μ-loop
-returns-2 c = c .none3 .ensures ∙ lexing-lost (c .before .before .before .loop .inv) _ (c .before .before .word-end .ensures) (c .before .if2 .taken)
+returns-2 c =
+    c .none3 .ensures
+    ∙ lexing-lost (c .before .before .before .loop .inv) _ (c .before .before .word-end .ensures)
+    (c .before .if2 .taken)
 
 with-requires : tie.Need-with-requires Inv-loop μ-loop
-with-requires c κs = (omega (arith, c .before .before .loop .inv .few, lexing-low (c .before .before .loop .inv) _ (c .before .word-end .ensures), c .if2 .left, c .before .before .loop .inv .small), omega (arith, lexing-low (c .before .before .loop .inv) _ (c .before .word-end .ensures), c .if2 .left, c .before .before .loop .inv .small), omega (arith, c .if2 .left, c .before .before .loop .inv .small))
+with-requires c κs = (
+  omega (
+    arith,
+    c .before .before .loop .inv .few,
+    lexing-low (c .before .before .loop .inv) _ (c .before .word-end .ensures),
+    c .if2 .left,
+    c .before .before .loop .inv .small,
+  ),
+  omega (
+    arith,
+    lexing-low (c .before .before .loop .inv) _ (c .before .word-end .ensures),
+    c .if2 .left,
+    c .before .before .loop .inv .small,
+  ),
+  omega (arith, c .if2 .left, c .before .before .loop .inv .small),
+)
 
 shared-slice-read-if3 : tie.Need-shared-slice-read-if3 Inv-loop μ-loop
 shared-slice-read-if3 c = c .before .before .if2 .left
 
 returns-3 : tie.Need-returns-3 Inv-loop μ-loop
-returns-3 c = c .before .before .with .ensures ∙ lexing-ends (c .before .before .before .before .before .loop .inv) _ (c .before .before .before .before .word-end .ensures) (c .before .before .before .if2 .left) (c .if3 .taken)
+returns-3 c =
+    c .before .before .with .ensures
+    ∙ lexing-ends (c .before .before .before .before .before .loop .inv) _
+    (c .before .before .before .before .word-end .ensures) (c .before .before .before .if2 .left)
+    (c .if3 .taken)
 
 add-at : tie.Need-add-at Inv-loop μ-loop
 add-at c = omega (arith, c .before .before .before .if2 .left)
 
 loop-less : tie.Need-loop-less Inv-loop μ-loop
-loop-less c = omega (arith, lexing-low (c .before .before .before .before .before .loop .inv) _ (c .before .before .before .before .word-end .ensures), c .before .before .before .if2 .left)
+loop-less c =
+    omega (
+      arith,
+      lexing-low (c .before .before .before .before .before .loop .inv) _
+          (c .before .before .before .before .word-end .ensures),
+      c .before .before .before .if2 .left,
+    )
 
 loop-again : tie.Need-loop-again Inv-loop μ-loop
-loop-again c = rw (c .before .before .with .ensures) (lexing-on (c .before .before .before .before .before .loop .inv) _ (c .before .before .before .before .word-end .ensures) (c .before .before .before .if2 .left) (c .if3 .left))
+loop-again c =
+    rw (c .before .before .with .ensures)
+    (lexing-on (c .before .before .before .before .before .loop .inv) _
+    (c .before .before .before .before .word-end .ensures) (c .before .before .before .if2 .left) (c .if3 .left))
 
 pub fields-at-spec : {M : Type 1} → statement M
 fields-at-spec =

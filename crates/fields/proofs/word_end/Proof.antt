@@ -21,10 +21,15 @@ shared-slice-read-b : tie.Need-shared-slice-read-b Inv-loop μ-loop
 shared-slice-read-b c = search needs
 
 returns : tie.Need-returns Inv-loop μ-loop
-returns c = sym (c .before .before .before .loop .inv ∙ word-lf _ _ (c .before .before .loop-test .taken) (c .if1 .taken))
+returns c =
+    sym
+    (c .before .before .before .loop .inv ∙ word-lf _ _ (c .before .before .loop-test .taken) (c .if1 .taken))
 
 returns-2 : tie.Need-returns-2 Inv-loop μ-loop
-returns-2 c = sym (c .before .before .before .before .loop .inv ∙ word-tab _ _ (c .before .before .before .loop-test .taken) (c .before .if1 .left) (c .if2 .taken))
+returns-2 c =
+    sym
+    (c .before .before .before .before .loop .inv
+    ∙ word-tab _ _ (c .before .before .before .loop-test .taken) (c .before .if1 .left) (c .if2 .taken))
 
 add-i : tie.Need-add-i Inv-loop μ-loop
 add-i c = search needs
@@ -33,7 +38,9 @@ loop-less : tie.Need-loop-less Inv-loop μ-loop
 loop-less c = search needs
 
 loop-again : tie.Need-loop-again Inv-loop μ-loop
-loop-again c = c .before .before .before .before .loop .inv ∙ word-on _ _ (c .before .before .before .loop-test .taken) (c .before .if1 .left) (c .if2 .left)
+loop-again c =
+    c .before .before .before .before .loop .inv
+    ∙ word-on _ _ (c .before .before .before .loop-test .taken) (c .before .if1 .left) (c .if2 .left)
 
 returns-3 : tie.Need-returns-3 Inv-loop μ-loop
 returns-3 c = sym (c .before .loop .inv ∙ word-none _ _ (c .loop-test .left))

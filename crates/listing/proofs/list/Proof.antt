@@ -17,7 +17,10 @@ same-length : tie.Need-same-length
 same-length c = search needs
 
 returns : tie.Need-returns
-returns c = rw (← list-refused _ _ _ _ (c .before .before .before .before .before .before .before .read .ensures) (c .before .before .before .before .if1 .taken)) (c .before .before .put-refusal .ensures)
+returns c =
+    rw
+    (← list-refused _ _ _ _ (c .before .before .before .before .before .before .before .read .ensures)
+    (c .before .before .before .before .if1 .taken)) (c .before .before .put-refusal .ensures)
 
 slice-aggregate-stretch : tie.Need-slice-aggregate-stretch
 slice-aggregate-stretch c = search needs
@@ -41,7 +44,15 @@ same-length-2 : tie.Need-same-length-2
 same-length-2 c = search needs
 
 returns-2 : tie.Need-returns-2
-returns-2 c = rw (← list-ordered _ _ _ _ (c .before .before .before .before .before .before .before .before .before .before .before .before .before .read .ensures) (c .before .before .before .before .before .before .before .before .before .before .if1 .left) _ _ _ (c .before .before .before .before .before .before .before .before .stretch .ensures) (c .before .before .before .before .before .before .order .ensures .0) (c .before .before .before .before .before .before .order .ensures .1 .0)) (c .before .before .put-outcome .ensures)
+returns-2 c =
+    rw
+    (← list-ordered _ _ _ _
+    (c .before .before .before .before .before .before .before .before .before .before .before .before .before .read .ensures)
+    (c .before .before .before .before .before .before .before .before .before .before .if1 .left) _ _ _
+    (c .before .before .before .before .before .before .before .before .stretch .ensures)
+    (c .before .before .before .before .before .before .order .ensures .0)
+    (c .before .before .before .before .before .before .order .ensures .1 .0))
+    (c .before .before .put-outcome .ensures)
 
 pub list-spec : {M : Type 1} → statement M
 list-spec =

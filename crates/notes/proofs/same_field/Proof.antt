@@ -24,34 +24,63 @@ is-empty-requires : tie.Need-is-empty-requires Inv-loop μ-loop
 is-empty-requires c κs = search needs
 
 returns : tie.Need-returns Inv-loop μ-loop
-returns c = shorter _ _ _ (is-open _ _ (sym (c .before .before .is-empty .ensures) ∙ not-true _ (c .before .if1 .taken))) (omega arith) ∙ sym (c .before .before .before .loop .inv)
+returns c =
+    shorter _ _ _
+    (is-open _ _ (sym (c .before .before .is-empty .ensures) ∙ not-true _ (c .before .if1 .taken)))
+    (omega arith)
+    ∙ sym (c .before .before .before .loop .inv)
 
 shared-slice-read-if3 : tie.Need-shared-slice-read-if3 Inv-loop μ-loop
-shared-slice-read-if3 c = is-open _ _ (sym (c .before .before .before .is-empty .ensures) ∙ not-true _ (c .before .before .if1 .taken)) .inside
+shared-slice-read-if3 c =
+    is-open _ _
+    (sym (c .before .before .before .is-empty .ensures) ∙ not-true _ (c .before .before .if1 .taken)) .inside
 
 shared-slice-read-if3-2 : tie.Need-shared-slice-read-if3-2 Inv-loop μ-loop
 shared-slice-read-if3-2 c = omega arith
 
 returns-2 : tie.Need-returns-2 Inv-loop μ-loop
-returns-2 c = differs _ _ _ (is-open _ _ (sym (c .before .before .before .before .before .is-empty .ensures) ∙ not-true _ (c .before .before .before .before .if1 .taken))) (omega arith) (c .if3 .taken) ∙ sym (c .before .before .before .before .before .before .loop .inv)
+returns-2 c =
+    differs _ _ _
+    (is-open _ _
+    (sym (c .before .before .before .before .before .is-empty .ensures)
+    ∙ not-true _ (c .before .before .before .before .if1 .taken))) (omega arith) (c .if3 .taken)
+    ∙ sym (c .before .before .before .before .before .before .loop .inv)
 
 add-i : tie.Need-add-i Inv-loop μ-loop
-add-i c = omega (arith, is-open _ _ (sym (c .before .before .before .before .before .is-empty .ensures) ∙ not-true _ (c .before .before .before .before .if1 .taken)) .inside)
+add-i c =
+    omega (
+      arith,
+      is-open _ _
+          (sym (c .before .before .before .before .before .is-empty .ensures) ∙ not-true _ (c .before .before .before .before .if1 .taken)) .inside,
+    )
 
 add-j : tie.Need-add-j Inv-loop μ-loop
 add-j c = omega arith
 
 loop-less : tie.Need-loop-less Inv-loop μ-loop
-loop-less c = omega (arith, is-open _ _ (sym (c .before .before .before .before .before .is-empty .ensures) ∙ not-true _ (c .before .before .before .before .if1 .taken)) .inside)
+loop-less c =
+    omega (
+      arith,
+      is-open _ _
+          (sym (c .before .before .before .before .before .is-empty .ensures) ∙ not-true _ (c .before .before .before .before .if1 .taken)) .inside,
+    )
 
 loop-again : tie.Need-loop-again Inv-loop μ-loop
-loop-again c = c .before .before .before .before .before .before .loop .inv ∙ along _ _ _ (is-open _ _ (sym (c .before .before .before .before .before .is-empty .ensures) ∙ not-true _ (c .before .before .before .before .if1 .taken))) (omega arith) (c .if3 .left)
+loop-again c =
+    c .before .before .before .before .before .before .loop .inv
+    ∙ along _ _ _
+    (is-open _ _
+    (sym (c .before .before .before .before .before .is-empty .ensures)
+    ∙ not-true _ (c .before .before .before .before .if1 .taken))) (omega arith) (c .if3 .left)
 
 is-empty-requires-2 : tie.Need-is-empty-requires-2 Inv-loop μ-loop
 is-empty-requires-2 c κs = search needs
 
 returns-3 : tie.Need-returns-3 Inv-loop μ-loop
-returns-3 c = c .is-empty2 .ensures ∙ empty-same _ _ (sym (c .before .before .is-empty .ensures) ∙ not-false _ (c .before .if1 .left)) ∙ sym (c .before .before .before .loop .inv)
+returns-3 c =
+    c .is-empty2 .ensures
+    ∙ empty-same _ _ (sym (c .before .before .is-empty .ensures) ∙ not-false _ (c .before .if1 .left))
+    ∙ sym (c .before .before .before .loop .inv)
 
 pub same-field-spec : {M : Type 1} → statement M
 same-field-spec =

@@ -52,7 +52,13 @@ part-put-start : tie.Need-part-put-start Inv-loop μ-loop
 part-put-start c = omega (arith, c .before .before .before .loop .inv .within)
 
 part-put-end : tie.Need-part-put-end Inv-loop μ-loop
-part-put-end c = omega (arith, c .before .before .before .loop .inv .room, length-set (c .before .before .before .loop .digits) (c .before .before .before .loop .i) (48 + c .before .before .before .loop .m))
+part-put-end c =
+    omega (
+      arith,
+      c .before .before .before .loop .inv .room,
+      length-set (c .before .before .before .loop .digits) (c .before .before .before .loop .i)
+          (48 + c .before .before .before .loop .m),
+    )
 
 put-requires : tie.Need-put-requires Inv-loop μ-loop
 put-requires c κs = search needs
@@ -61,7 +67,10 @@ same-length : tie.Need-same-length Inv-loop μ-loop
 same-length c = put-long (c .before .before .put .ensures)
 
 returns : tie.Need-returns Inv-loop μ-loop
-returns c = rw (stored-ends (c .before .before .before .before .before .before .before .loop .inv) (c .before .before .before .before .before .before .loop-test .left)) at (c .before .before .put .ensures)
+returns c =
+    rw
+    (stored-ends (c .before .before .before .before .before .before .before .loop .inv)
+    (c .before .before .before .before .before .before .loop-test .left)) at (c .before .before .put .ensures)
 
 pub put-number-spec : {M : Type 1} → statement M
 put-number-spec =

@@ -17,7 +17,14 @@ same-length : tie.Need-same-length
 same-length c = search needs
 
 returns : tie.Need-returns
-returns c = rw (← outcome-order (c .before .before .before .before .before .before .before .before .before .before .before .args .text .now) _ _ (c .before .before .before .before .before .before .before .before .before .before .before .args .buffer .now) _ (c .before .before .before .before .before .before .before .stretch .ensures) (c .before .before .before .before .before .if1 .taken)) (c .before .before .put-calls .ensures)
+returns c =
+    rw
+    (← outcome-order
+    (c .before .before .before .before .before .before .before .before .before .before .before .args .text .now)
+    _ _
+    (c .before .before .before .before .before .before .before .before .before .before .before .args .buffer .now)
+    _ (c .before .before .before .before .before .before .before .stretch .ensures)
+    (c .before .before .before .before .before .if1 .taken)) (c .before .before .put-calls .ensures)
 
 slice-aggregate-put-calls-2 : tie.Need-slice-aggregate-put-calls-2
 slice-aggregate-put-calls-2 c = search needs
@@ -29,7 +36,15 @@ same-length-2 : tie.Need-same-length-2
 same-length-2 c = search needs
 
 returns-2 : tie.Need-returns-2
-returns-2 c = rw (← outcome-cycle (c .before .before .before .before .before .before .before .before .before .before .before .before .before .args .text .now) _ _ (c .before .before .before .before .before .before .before .before .before .before .before .before .before .args .buffer .now) _ (c .before .before .before .before .before .before .before .before .before .stretch .ensures) (c .before .before .before .before .before .before .before .if1 .left) (c .before .before .before .before .before .if2 .taken)) (c .before .before .put-calls2 .ensures)
+returns-2 c =
+    rw
+    (← outcome-cycle
+    (c .before .before .before .before .before .before .before .before .before .before .before .before .before .args .text .now)
+    _ _
+    (c .before .before .before .before .before .before .before .before .before .before .before .before .before .args .buffer .now)
+    _ (c .before .before .before .before .before .before .before .before .before .stretch .ensures)
+    (c .before .before .before .before .before .before .before .if1 .left)
+    (c .before .before .before .before .before .if2 .taken)) (c .before .before .put-calls2 .ensures)
 
 put-refusal-requires : tie.Need-put-refusal-requires
 put-refusal-requires c κs = search needs
@@ -38,7 +53,12 @@ same-length-3 : tie.Need-same-length-3
 same-length-3 c = search needs
 
 returns-3 : tie.Need-returns-3
-returns-3 c = rw (← outcome-refused (c .before .before .before .before .before .before .before .before .before .before .before .before .args .text .now) _ _ _ (c .before .before .before .before .before .before .if1 .left) (c .before .before .before .before .if2 .left)) (c .before .before .put-refusal .ensures)
+returns-3 c =
+    rw
+    (← outcome-refused
+    (c .before .before .before .before .before .before .before .before .before .before .before .before .args .text .now)
+    _ _ _ (c .before .before .before .before .before .before .if1 .left)
+    (c .before .before .before .before .if2 .left)) (c .before .before .put-refusal .ensures)
 
 pub put-outcome-spec : {M : Type 1} → statement M
 put-outcome-spec =

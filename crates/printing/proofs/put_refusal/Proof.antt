@@ -15,13 +15,29 @@ digit-count-requires-2 : tie.Need-digit-count-requires-2
 digit-count-requires-2 c κs = search needs
 
 add-if1 : tie.Need-add-if1
-add-if1 c = omega (arith, decimal-long (c .before .before .before .args .number), decimal-long (c .before .before .before .args .line))
+add-if1 c =
+    omega (
+      arith,
+      decimal-long (c .before .before .before .args .number),
+      decimal-long (c .before .before .before .args .line),
+    )
 
 add-if1-2 : tie.Need-add-if1-2
-add-if1-2 c = omega (arith, decimal-long (c .before .before .before .args .number), decimal-long (c .before .before .before .args .line))
+add-if1-2 c =
+    omega (
+      arith,
+      decimal-long (c .before .before .before .args .number),
+      decimal-long (c .before .before .before .args .line),
+    )
 
 returns : tie.Need-returns
-returns c = listed-not _ _ (omega (arith, refusal-long (c .before .before .before .before .args .number) (c .before .before .before .before .args .line)))
+returns c =
+    listed-not _ _
+    (omega (
+      arith,
+      refusal-long (c .before .before .before .before .args .number)
+          (c .before .before .before .before .args .line),
+    ))
 
 slice-aggregate-put-field : tie.Need-slice-aggregate-put-field
 slice-aggregate-put-field c = search needs
@@ -33,13 +49,31 @@ put-count-requires : tie.Need-put-count-requires
 put-count-requires c κs = search needs
 
 put-count-requires-2 : tie.Need-put-count-requires-2
-put-count-requires-2 c κs = omega (arith, c .before .before .before .before .before .before .before .before .before .before .if1 .left, c .before .before .before .before .before .before .before .before .before .before .before .before .digit-count .ensures, c .before .before .before .before .before .before .before .before .before .before .before .digit-count2 .ensures, c .before .before .before .before .before .before .before .put-field .ensures .place, c .before .before .before .put-count .ensures .place, wrote-long (c .before .before .before .before .before .before .before .put-field .ensures), wrote-long (c .before .before .before .put-count .ensures), ended-long (decimal (c .before .before .before .before .before .before .before .before .before .before .before .before .before .before .args .number)) 9)
+put-count-requires-2 c κs =
+    omega (
+      arith,
+      c .before .before .before .before .before .before .before .before .before .before .if1 .left,
+      c .before .before .before .before .before .before .before .before .before .before .before .before .digit-count .ensures,
+      c .before .before .before .before .before .before .before .before .before .before .before .digit-count2 .ensures,
+      c .before .before .before .before .before .before .before .put-field .ensures .place,
+      c .before .before .before .put-count .ensures .place,
+      wrote-long (c .before .before .before .before .before .before .before .put-field .ensures),
+      wrote-long (c .before .before .before .put-count .ensures),
+      ended-long
+          (decimal
+          (c .before .before .before .before .before .before .before .before .before .before .before .before .before .before .args .number))
+          9,
+    )
 
 same-length : tie.Need-same-length
 same-length c = search needs
 
 returns-2 : tie.Need-returns-2
-returns-2 c = refusal-all _ _ (c .before .before .before .before .before .before .before .before .before .before .put-field .ensures) (c .before .before .before .before .before .before .put-count .ensures) (c .before .before .put-count2 .ensures)
+returns-2 c =
+    refusal-all _ _
+    (c .before .before .before .before .before .before .before .before .before .before .put-field .ensures)
+    (c .before .before .before .before .before .before .put-count .ensures)
+    (c .before .before .put-count2 .ensures)
 
 pub put-refusal-spec : {M : Type 1} → statement M
 put-refusal-spec =

@@ -33,7 +33,26 @@ loop-less : tie.Need-loop-less Inv-loop μ-loop
 loop-less c = omega arith
 
 loop-again : tie.Need-loop-again Inv-loop μ-loop
-loop-again c = ⊎-elim (λ w. (omega arith, (omega (arith, w .1), w .1 ∙ counts _ _ _ (c .before .before .loop-test .taken) (c .before .before .before .loop .inv .1 .1) (w .0 .taken)))) (λ w. (omega arith, (omega (arith, w .1), w .1 ∙ passes _ _ _ (c .before .before .loop-test .taken) (c .before .before .before .loop .inv .1 .1) (w .0 .left)))) (c .if1 .came)
+loop-again c =
+    ⊎-elim
+    (λ w. (
+      omega arith,
+      (
+        omega (arith, w .1),
+        w .1
+            ∙ counts _ _ _ (c .before .before .loop-test .taken) (c .before .before .before .loop .inv .1 .1)
+            (w .0 .taken),
+      ),
+    ))
+    (λ w. (
+      omega arith,
+      (
+        omega (arith, w .1),
+        w .1
+            ∙ passes _ _ _ (c .before .before .loop-test .taken) (c .before .before .before .loop .inv .1 .1)
+            (w .0 .left),
+      ),
+    )) (c .if1 .came)
 
 returns : tie.Need-returns Inv-loop μ-loop
 returns c = c .before .loop .inv .1 .1 ∙ times-all _ _ _ (c .loop-test .left)

@@ -24,31 +24,77 @@ slice-aggregate-entry-length-2 : tie.Need-slice-aggregate-entry-length-2
 slice-aggregate-entry-length-2 c = search needs
 
 entry-length-requires : tie.Need-entry-length-requires
-entry-length-requires c κs = (omega arith, rw (c .before .before .before .before .field .ensures) (word-short _ _ _ (c .before .before .before .before .before .before .before .before .before .pre (c .before .before .before .before .before .before .if1 .left)) (omega arith)), omega arith)
+entry-length-requires c κs = (
+  omega arith,
+  rw (c .before .before .before .before .field .ensures)
+      (word-short _ _ _
+      (c .before .before .before .before .before .before .before .before .before .pre
+      (c .before .before .before .before .before .before .if1 .left)) (omega arith)),
+  omega arith,
+)
 
 returns-2 : tie.Need-returns-2
-returns-2 c = c .entry-length .ensures ∙ ap length (text-step _ _ _ _ [] (c .before .before .before .before .before .field .ensures) (c .before .before .before .if2 .taken))
+returns-2 c =
+    c .entry-length .ensures
+    ∙ ap length
+    (text-step _ _ _ _ [] (c .before .before .before .before .before .field .ensures)
+    (c .before .before .before .if2 .taken))
 
 field-requires-2 : tie.Need-field-requires-2
-field-requires-2 c κs = (c .before .before .before .before .before .before .before .pre (c .before .before .before .before .if1 .left), omega arith)
+field-requires-2 c κs = (
+  c .before .before .before .before .before .before .before .pre
+      (c .before .before .before .before .if1 .left),
+  omega arith,
+)
 
 slice-aggregate-entry-length-3 : tie.Need-slice-aggregate-entry-length-3
 slice-aggregate-entry-length-3 c = search needs
 
 entry-length-requires-2 : tie.Need-entry-length-requires-2
-entry-length-requires-2 c κs = (omega arith, rw (c .before .before .before .before .before .before .field .ensures) (word-short _ _ _ (c .before .before .before .before .before .before .before .before .before .before .before .pre (c .before .before .before .before .before .before .before .before .if1 .left)) (omega arith)), rw (c .before .before .before .field2 .ensures) (word-short _ _ _ (c .before .before .before .before .before .before .before .before .before .before .before .pre (c .before .before .before .before .before .before .before .before .if1 .left)) (omega arith)))
+entry-length-requires-2 c κs = (
+  omega arith,
+  rw (c .before .before .before .before .before .before .field .ensures)
+      (word-short _ _ _
+      (c .before .before .before .before .before .before .before .before .before .before .before .pre
+      (c .before .before .before .before .before .before .before .before .if1 .left)) (omega arith)),
+  rw (c .before .before .before .field2 .ensures)
+      (word-short _ _ _
+      (c .before .before .before .before .before .before .before .before .before .before .before .pre
+      (c .before .before .before .before .before .before .before .before .if1 .left)) (omega arith)),
+)
 
 returns-3 : tie.Need-returns-3
-returns-3 c = c .entry-length2 .ensures ∙ ap length (text-get _ _ _ _ _ (c .before .before .before .before .before .before .before .field .ensures) (c .before .before .before .before .field2 .ensures) (c .before .before .before .before .before .if2 .left) (c .before .before .if3 .taken))
+returns-3 c =
+    c .entry-length2 .ensures
+    ∙ ap length
+    (text-get _ _ _ _ _ (c .before .before .before .before .before .before .before .field .ensures)
+    (c .before .before .before .before .field2 .ensures) (c .before .before .before .before .before .if2 .left)
+    (c .before .before .if3 .taken))
 
 slice-aggregate-entry-length-4 : tie.Need-slice-aggregate-entry-length-4
 slice-aggregate-entry-length-4 c = search needs
 
 entry-length-requires-3 : tie.Need-entry-length-requires-3
-entry-length-requires-3 c κs = (omega arith, rw (c .before .before .before .before .before .before .field .ensures) (word-short _ _ _ (c .before .before .before .before .before .before .before .before .before .before .before .pre (c .before .before .before .before .before .before .before .before .if1 .left)) (omega arith)), rw (c .before .before .before .field2 .ensures) (word-short _ _ _ (c .before .before .before .before .before .before .before .before .before .before .before .pre (c .before .before .before .before .before .before .before .before .if1 .left)) (omega arith)))
+entry-length-requires-3 c κs = (
+  omega arith,
+  rw (c .before .before .before .before .before .before .field .ensures)
+      (word-short _ _ _
+      (c .before .before .before .before .before .before .before .before .before .before .before .pre
+      (c .before .before .before .before .before .before .before .before .if1 .left)) (omega arith)),
+  rw (c .before .before .before .field2 .ensures)
+      (word-short _ _ _
+      (c .before .before .before .before .before .before .before .before .before .before .before .pre
+      (c .before .before .before .before .before .before .before .before .if1 .left)) (omega arith)),
+)
 
 returns-4 : tie.Need-returns-4
-returns-4 c = c .entry-length3 .ensures ∙ ap length (text-set _ _ _ _ _ (c .before .before .before .before .before .before .before .field .ensures) (c .before .before .before .before .field2 .ensures) (c .before .before .before .before .before .if2 .left) (c .before .before .if3 .left) (c .before .before .before .before .before .before .before .before .before .if1 .left))
+returns-4 c =
+    c .entry-length3 .ensures
+    ∙ ap length
+    (text-set _ _ _ _ _ (c .before .before .before .before .before .before .before .field .ensures)
+    (c .before .before .before .before .field2 .ensures) (c .before .before .before .before .before .if2 .left)
+    (c .before .before .if3 .left)
+    (c .before .before .before .before .before .before .before .before .before .if1 .left))
 
 pub text-length-spec : {M : Type 1} → statement M
 text-length-spec =

@@ -28,10 +28,20 @@ line-at-requires : tie.Need-line-at-requires Inv-loop μ-loop
 line-at-requires c κs = search needs
 
 text-length-requires : tie.Need-text-length-requires Inv-loop μ-loop
-text-length-requires c κs = λ h. found-small _ _ _ _ (c .before .before .before .before .before .before .before .before .before .pre) _ _ (c .line-at .ensures) h
+text-length-requires c κs =
+    λ h.
+    found-small _ _ _ _ (c .before .before .before .before .before .before .before .before .before .pre) _ _
+    (c .line-at .ensures) h
 
 returns : tie.Need-returns Inv-loop μ-loop
-returns c = fitting-not (c .before .before .before .before .before .loop .inv) _ (c .before .before .before .before .loop-test .taken) (c .before .text-length .ensures ∙ ap length (found-prints _ _ _ _ (c .before .before .before .before .before .before .before .before .before .before .before .pre) _ _ (c .before .before .line-at .ensures) _)) (c .if1 .taken)
+returns c =
+    fitting-not (c .before .before .before .before .before .loop .inv) _
+    (c .before .before .before .before .loop-test .taken)
+    (c .before .text-length .ensures
+    ∙ ap length
+    (found-prints _ _ _ _
+    (c .before .before .before .before .before .before .before .before .before .before .before .pre) _ _
+    (c .before .before .line-at .ensures) _)) (c .if1 .taken)
 
 add-i : tie.Need-add-i Inv-loop μ-loop
 add-i c = search needs
@@ -40,7 +50,14 @@ loop-less : tie.Need-loop-less Inv-loop μ-loop
 loop-less c = search needs
 
 loop-again : tie.Need-loop-again Inv-loop μ-loop
-loop-again c = fitting-on (c .before .before .before .before .before .loop .inv) _ (c .before .before .before .before .loop-test .taken) (c .before .text-length .ensures ∙ ap length (found-prints _ _ _ _ (c .before .before .before .before .before .before .before .before .before .before .before .pre) _ _ (c .before .before .line-at .ensures) _)) (c .if1 .left)
+loop-again c =
+    fitting-on (c .before .before .before .before .before .loop .inv) _
+    (c .before .before .before .before .loop-test .taken)
+    (c .before .text-length .ensures
+    ∙ ap length
+    (found-prints _ _ _ _
+    (c .before .before .before .before .before .before .before .before .before .before .before .pre) _ _
+    (c .before .before .line-at .ensures) _)) (c .if1 .left)
 
 returns-2 : tie.Need-returns-2 Inv-loop μ-loop
 returns-2 c = fitting-ends (c .before .loop .inv) (c .loop-test .left)

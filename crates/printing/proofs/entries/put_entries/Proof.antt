@@ -27,7 +27,18 @@ line-at-requires : tie.Need-line-at-requires Inv-loop μ-loop
 line-at-requires c κs = search needs
 
 put-text-requires : tie.Need-put-text-requires Inv-loop μ-loop
-put-text-requires c κs = (λ h. found-small _ _ _ _ (c .before .before .before .before .before .before .before .before .before .before .before .pre .0) _ _ (c .before .line-at .ensures) h, same-room _ _ (found-prints _ _ _ _ (c .before .before .before .before .before .before .before .before .before .before .before .pre .0) _ _ (c .before .line-at .ensures) _) (writing-room (c .before .before .before .before .loop .inv) (c .before .before .before .loop-test .taken) (c .before .before .before .before .before .before .before .before .before .before .before .pre .1)))
+put-text-requires c κs = (
+  λ h.
+      found-small _ _ _ _
+      (c .before .before .before .before .before .before .before .before .before .before .before .pre .0) _ _
+      (c .before .line-at .ensures) h,
+  same-room _ _
+      (found-prints _ _ _ _
+      (c .before .before .before .before .before .before .before .before .before .before .before .pre .0) _ _
+      (c .before .line-at .ensures) _)
+      (writing-room (c .before .before .before .before .loop .inv) (c .before .before .before .loop-test .taken)
+      (c .before .before .before .before .before .before .before .before .before .before .before .pre .1)),
+)
 
 add-i : tie.Need-add-i Inv-loop μ-loop
 add-i c = search needs
@@ -36,7 +47,13 @@ loop-less : tie.Need-loop-less Inv-loop μ-loop
 loop-less c = search needs
 
 loop-again : tie.Need-loop-again Inv-loop μ-loop
-loop-again c = writing-on (c .before .before .before .before .before .before .before .loop .inv) (c .before .before .before .before .before .before .loop-test .taken) (same-put (c .before .before .put-text .ensures) (found-prints _ _ _ _ (c .before .before .before .before .before .before .before .before .before .before .before .before .before .before .pre .0) _ _ (c .before .before .before .before .line-at .ensures) _))
+loop-again c =
+    writing-on (c .before .before .before .before .before .before .before .loop .inv)
+    (c .before .before .before .before .before .before .loop-test .taken)
+    (same-put (c .before .before .put-text .ensures)
+    (found-prints _ _ _ _
+    (c .before .before .before .before .before .before .before .before .before .before .before .before .before .before .pre .0)
+    _ _ (c .before .before .before .before .line-at .ensures) _))
 
 same-length : tie.Need-same-length Inv-loop μ-loop
 same-length c = writing-long (c .before .loop .inv)

@@ -14,7 +14,9 @@ shape-requires : tie.Need-shape-requires
 shape-requires c κs = search needs
 
 returns : tie.Need-returns
-returns c = in-stops _ _ _ _ (c .before .before .before .pre .0) _ _ (c .before .before .before .pre .1 .0) _ _ (c .before .shape .ensures) (c .if1 .taken)
+returns c =
+    in-stops _ _ _ _ (c .before .before .before .pre .0) _ _ (c .before .before .before .pre .1 .0) _ _
+    (c .before .shape .ensures) (c .if1 .taken)
 
 element-copy-out-wide : tie.Need-element-copy-out-wide
 element-copy-out-wide c = search needs
@@ -29,20 +31,47 @@ wide-requires-2 : tie.Need-wide-requires-2
 wide-requires-2 c κs = search needs
 
 sub-kind-of : tie.Need-sub-kind-of
-sub-kind-of c = word-ends _ _ _ (c .before .before .before .before .before .before .before .pre .1 .0) 3 _ _ (omega arith) (has-field _ _ _ _ _ _ (c .before .before .before .before .before .before .before .pre .1 .0) 4 2 _ 3 (c .before .before .before .before .before .shape .ensures) (c .before .before .before .before .if1 .left) (omega arith)) (c .before .before .wide .ensures) (c .wide2 .ensures) .0
+sub-kind-of c =
+    word-ends _ _ _ (c .before .before .before .before .before .before .before .pre .1 .0) 3 _ _ (omega arith)
+    (has-field _ _ _ _ _ _ (c .before .before .before .before .before .before .before .pre .1 .0) 4 2 _ 3
+    (c .before .before .before .before .before .shape .ensures) (c .before .before .before .before .if1 .left)
+    (omega arith)) (c .before .before .wide .ensures) (c .wide2 .ensures) .0
 
 part-kind-of-start : tie.Need-part-kind-of-start
-part-kind-of-start c = word-ends _ _ _ (c .before .before .before .before .before .before .before .pre .1 .0) 3 _ _ (omega arith) (has-field _ _ _ _ _ _ (c .before .before .before .before .before .before .before .pre .1 .0) 4 2 _ 3 (c .before .before .before .before .before .shape .ensures) (c .before .before .before .before .if1 .left) (omega arith)) (c .before .before .wide .ensures) (c .wide2 .ensures) .0
+part-kind-of-start c =
+    word-ends _ _ _ (c .before .before .before .before .before .before .before .pre .1 .0) 3 _ _ (omega arith)
+    (has-field _ _ _ _ _ _ (c .before .before .before .before .before .before .before .pre .1 .0) 4 2 _ 3
+    (c .before .before .before .before .before .shape .ensures) (c .before .before .before .before .if1 .left)
+    (omega arith)) (c .before .before .wide .ensures) (c .wide2 .ensures) .0
 
 part-kind-of-end : tie.Need-part-kind-of-end
-part-kind-of-end c = word-ends _ _ _ (c .before .before .before .before .before .before .before .pre .1 .0) 3 _ _ (omega arith) (has-field _ _ _ _ _ _ (c .before .before .before .before .before .before .before .pre .1 .0) 4 2 _ 3 (c .before .before .before .before .before .shape .ensures) (c .before .before .before .before .if1 .left) (omega arith)) (c .before .before .wide .ensures) (c .wide2 .ensures) .1
+part-kind-of-end c =
+    word-ends _ _ _ (c .before .before .before .before .before .before .before .pre .1 .0) 3 _ _ (omega arith)
+    (has-field _ _ _ _ _ _ (c .before .before .before .before .before .before .before .pre .1 .0) 4 2 _ 3
+    (c .before .before .before .before .before .shape .ensures) (c .before .before .before .before .if1 .left)
+    (omega arith)) (c .before .before .wide .ensures) (c .wide2 .ensures) .1
 
 kind-of-requires : tie.Need-kind-of-requires
 kind-of-requires c κs = search needs
 
 returns-2 : tie.Need-returns-2
 unfolding stretch
-returns-2 c = in-28 _ _ _ _ (c .before .before .before .before .before .before .before .before .before .before .pre .0) _ _ (c .before .before .before .before .before .before .before .before .before .before .pre .1 .0) _ _ (c .before .before .before .before .before .before .before .before .shape .ensures) (c .before .before .before .before .before .before .before .if1 .left) _ (c .before .kind-of .ensures ∙ ap kindOf (word-here _ _ _ (c .before .before .before .before .before .before .before .before .before .before .pre .1 .0) 3 _ _ (omega arith) (has-field _ _ _ _ _ _ (c .before .before .before .before .before .before .before .before .before .before .pre .1 .0) 4 2 _ 3 (c .before .before .before .before .before .before .before .before .shape .ensures) (c .before .before .before .before .before .before .before .if1 .left) (omega arith)) (c .before .before .before .before .before .wide .ensures) (c .before .before .before .wide2 .ensures))) (c .if2 .taken)
+returns-2 c =
+    in-28 _ _ _ _ (c .before .before .before .before .before .before .before .before .before .before .pre .0) _
+    _ (c .before .before .before .before .before .before .before .before .before .before .pre .1 .0) _ _
+    (c .before .before .before .before .before .before .before .before .shape .ensures)
+    (c .before .before .before .before .before .before .before .if1 .left) _
+    (c .before .kind-of .ensures
+    ∙ ap kindOf
+    (word-here _ _ _
+    (c .before .before .before .before .before .before .before .before .before .before .pre .1 .0) 3 _ _
+    (omega arith)
+    (has-field _ _ _ _ _ _
+    (c .before .before .before .before .before .before .before .before .before .before .pre .1 .0) 4 2 _ 3
+    (c .before .before .before .before .before .before .before .before .shape .ensures)
+    (c .before .before .before .before .before .before .before .if1 .left) (omega arith))
+    (c .before .before .before .before .before .wide .ensures) (c .before .before .before .wide2 .ensures)))
+    (c .if2 .taken)
 
 element-copy-out-unit-named : tie.Need-element-copy-out-unit-named
 element-copy-out-unit-named c = search needs
@@ -52,7 +81,29 @@ unit-named-requires c κs = search needs
 
 returns-3 : tie.Need-returns-3
 unfolding stretch
-returns-3 c = in-27 _ _ _ _ (c .before .before .before .before .before .before .before .before .before .before .before .before .before .before .before .pre .0) _ _ (c .before .before .before .before .before .before .before .before .before .before .before .before .before .before .before .pre .1 .0) _ _ (c .before .before .before .before .before .before .before .before .before .before .before .before .before .shape .ensures) (c .before .before .before .before .before .before .before .before .before .before .before .before .if1 .left) _ (c .before .before .before .before .before .before .kind-of .ensures ∙ ap kindOf (word-here _ _ _ (c .before .before .before .before .before .before .before .before .before .before .before .before .before .before .before .pre .1 .0) 3 _ _ (omega arith) (has-field _ _ _ _ _ _ (c .before .before .before .before .before .before .before .before .before .before .before .before .before .before .before .pre .1 .0) 4 2 _ 3 (c .before .before .before .before .before .before .before .before .before .before .before .before .before .shape .ensures) (c .before .before .before .before .before .before .before .before .before .before .before .before .if1 .left) (omega arith)) (c .before .before .before .before .before .before .before .before .before .before .wide .ensures) (c .before .before .before .before .before .before .before .before .wide2 .ensures))) (c .before .before .before .before .before .if2 .left) _ (c .before .unit-named .ensures) (c .if3 .taken)
+returns-3 c =
+    in-27 _ _ _ _
+    (c .before .before .before .before .before .before .before .before .before .before .before .before .before .before .before .pre .0)
+    _ _
+    (c .before .before .before .before .before .before .before .before .before .before .before .before .before .before .before .pre .1 .0)
+    _ _
+    (c .before .before .before .before .before .before .before .before .before .before .before .before .before .shape .ensures)
+    (c .before .before .before .before .before .before .before .before .before .before .before .before .if1 .left)
+    _
+    (c .before .before .before .before .before .before .kind-of .ensures
+    ∙ ap kindOf
+    (word-here _ _ _
+    (c .before .before .before .before .before .before .before .before .before .before .before .before .before .before .before .pre .1 .0)
+    3 _ _ (omega arith)
+    (has-field _ _ _ _ _ _
+    (c .before .before .before .before .before .before .before .before .before .before .before .before .before .before .before .pre .1 .0)
+    4 2 _ 3
+    (c .before .before .before .before .before .before .before .before .before .before .before .before .before .shape .ensures)
+    (c .before .before .before .before .before .before .before .before .before .before .before .before .if1 .left)
+    (omega arith))
+    (c .before .before .before .before .before .before .before .before .before .before .wide .ensures)
+    (c .before .before .before .before .before .before .before .before .wide2 .ensures)))
+    (c .before .before .before .before .before .if2 .left) _ (c .before .unit-named .ensures) (c .if3 .taken)
 
 element-copy-out-a : tie.Need-element-copy-out-a
 element-copy-out-a c = search needs
@@ -62,18 +113,107 @@ input-named-requires c κs = search needs
 
 returns-4 : tie.Need-returns-4
 unfolding stretch
-returns-4 c = in-26 _ _ _ _ (c .before .before .before .before .before .before .before .before .before .before .before .before .before .before .before .before .before .before .before .before .pre .0) _ _ (c .before .before .before .before .before .before .before .before .before .before .before .before .before .before .before .before .before .before .before .before .pre .1 .0) _ _ (c .before .before .before .before .before .before .before .before .before .before .before .before .before .before .before .before .before .before .shape .ensures) (c .before .before .before .before .before .before .before .before .before .before .before .before .before .before .before .before .before .if1 .left) _ (c .before .before .before .before .before .before .before .before .before .before .before .kind-of .ensures ∙ ap kindOf (word-here _ _ _ (c .before .before .before .before .before .before .before .before .before .before .before .before .before .before .before .before .before .before .before .before .pre .1 .0) 3 _ _ (omega arith) (has-field _ _ _ _ _ _ (c .before .before .before .before .before .before .before .before .before .before .before .before .before .before .before .before .before .before .before .before .pre .1 .0) 4 2 _ 3 (c .before .before .before .before .before .before .before .before .before .before .before .before .before .before .before .before .before .before .shape .ensures) (c .before .before .before .before .before .before .before .before .before .before .before .before .before .before .before .before .before .if1 .left) (omega arith)) (c .before .before .before .before .before .before .before .before .before .before .before .before .before .before .before .wide .ensures) (c .before .before .before .before .before .before .before .before .before .before .before .before .before .wide2 .ensures))) (c .before .before .before .before .before .before .before .before .before .before .if2 .left) _ (c .before .before .before .before .before .before .unit-named .ensures) (c .before .before .before .before .before .if3 .left) _ (c .before .input-named .ensures) (c .if4 .taken)
+returns-4 c =
+    in-26 _ _ _ _
+    (c .before .before .before .before .before .before .before .before .before .before .before .before .before .before .before .before .before .before .before .before .pre .0)
+    _ _
+    (c .before .before .before .before .before .before .before .before .before .before .before .before .before .before .before .before .before .before .before .before .pre .1 .0)
+    _ _
+    (c .before .before .before .before .before .before .before .before .before .before .before .before .before .before .before .before .before .before .shape .ensures)
+    (c .before .before .before .before .before .before .before .before .before .before .before .before .before .before .before .before .before .if1 .left)
+    _
+    (c .before .before .before .before .before .before .before .before .before .before .before .kind-of .ensures
+    ∙ ap kindOf
+    (word-here _ _ _
+    (c .before .before .before .before .before .before .before .before .before .before .before .before .before .before .before .before .before .before .before .before .pre .1 .0)
+    3 _ _ (omega arith)
+    (has-field _ _ _ _ _ _
+    (c .before .before .before .before .before .before .before .before .before .before .before .before .before .before .before .before .before .before .before .before .pre .1 .0)
+    4 2 _ 3
+    (c .before .before .before .before .before .before .before .before .before .before .before .before .before .before .before .before .before .before .shape .ensures)
+    (c .before .before .before .before .before .before .before .before .before .before .before .before .before .before .before .before .before .if1 .left)
+    (omega arith))
+    (c .before .before .before .before .before .before .before .before .before .before .before .before .before .before .before .wide .ensures)
+    (c .before .before .before .before .before .before .before .before .before .before .before .before .before .wide2 .ensures)))
+    (c .before .before .before .before .before .before .before .before .before .before .if2 .left) _
+    (c .before .before .before .before .before .before .unit-named .ensures)
+    (c .before .before .before .before .before .if3 .left) _ (c .before .input-named .ensures) (c .if4 .taken)
 
 returns-5 : tie.Need-returns-5
 unfolding stretch
-returns-5 c = in-29 _ _ _ _ (c .before .before .before .before .before .before .before .before .before .before .before .before .before .before .before .before .before .before .before .before .before .pre .0) _ _ (c .before .before .before .before .before .before .before .before .before .before .before .before .before .before .before .before .before .before .before .before .before .pre .1 .0) _ _ (c .before .before .before .before .before .before .before .before .before .before .before .before .before .before .before .before .before .before .before .shape .ensures) (c .before .before .before .before .before .before .before .before .before .before .before .before .before .before .before .before .before .before .if1 .left) _ (c .before .before .before .before .before .before .before .before .before .before .before .before .kind-of .ensures ∙ ap kindOf (word-here _ _ _ (c .before .before .before .before .before .before .before .before .before .before .before .before .before .before .before .before .before .before .before .before .before .pre .1 .0) 3 _ _ (omega arith) (has-field _ _ _ _ _ _ (c .before .before .before .before .before .before .before .before .before .before .before .before .before .before .before .before .before .before .before .before .before .pre .1 .0) 4 2 _ 3 (c .before .before .before .before .before .before .before .before .before .before .before .before .before .before .before .before .before .before .before .shape .ensures) (c .before .before .before .before .before .before .before .before .before .before .before .before .before .before .before .before .before .before .if1 .left) (omega arith)) (c .before .before .before .before .before .before .before .before .before .before .before .before .before .before .before .before .wide .ensures) (c .before .before .before .before .before .before .before .before .before .before .before .before .before .before .wide2 .ensures))) (c .before .before .before .before .before .before .before .before .before .before .before .if2 .left) _ (c .before .before .before .before .before .before .before .unit-named .ensures) (c .before .before .before .before .before .before .if3 .left) _ (c .before .before .input-named .ensures) (c .before .if4 .left) (c .if5 .taken)
+returns-5 c =
+    in-29 _ _ _ _
+    (c .before .before .before .before .before .before .before .before .before .before .before .before .before .before .before .before .before .before .before .before .before .pre .0)
+    _ _
+    (c .before .before .before .before .before .before .before .before .before .before .before .before .before .before .before .before .before .before .before .before .before .pre .1 .0)
+    _ _
+    (c .before .before .before .before .before .before .before .before .before .before .before .before .before .before .before .before .before .before .before .shape .ensures)
+    (c .before .before .before .before .before .before .before .before .before .before .before .before .before .before .before .before .before .before .if1 .left)
+    _
+    (c .before .before .before .before .before .before .before .before .before .before .before .before .kind-of .ensures
+    ∙ ap kindOf
+    (word-here _ _ _
+    (c .before .before .before .before .before .before .before .before .before .before .before .before .before .before .before .before .before .before .before .before .before .pre .1 .0)
+    3 _ _ (omega arith)
+    (has-field _ _ _ _ _ _
+    (c .before .before .before .before .before .before .before .before .before .before .before .before .before .before .before .before .before .before .before .before .before .pre .1 .0)
+    4 2 _ 3
+    (c .before .before .before .before .before .before .before .before .before .before .before .before .before .before .before .before .before .before .before .shape .ensures)
+    (c .before .before .before .before .before .before .before .before .before .before .before .before .before .before .before .before .before .before .if1 .left)
+    (omega arith))
+    (c .before .before .before .before .before .before .before .before .before .before .before .before .before .before .before .before .wide .ensures)
+    (c .before .before .before .before .before .before .before .before .before .before .before .before .before .before .wide2 .ensures)))
+    (c .before .before .before .before .before .before .before .before .before .before .before .if2 .left) _
+    (c .before .before .before .before .before .before .before .unit-named .ensures)
+    (c .before .before .before .before .before .before .if3 .left) _ (c .before .before .input-named .ensures)
+    (c .before .if4 .left) (c .if5 .taken)
 
 add-input-requires : tie.Need-add-input-requires
-add-input-requires c κs = (c .before .before .before .before .before .before .before .before .before .before .before .before .before .before .before .before .before .before .before .before .before .before .before .pre .0, (c .before .before .if5 .left, (omega (arith, c .before .before .before .before .before .before .before .before .if3 .left, c .before .before .before .before .before .before .before .before .before .before .before .before .before .before .before .before .before .before .before .before .before .before .before .pre .0 .units-most), c .before .before .before .before .before .before .before .before .before .before .before .before .before .before .before .before .before .before .before .before .before .before .before .pre .1 .1)))
+add-input-requires c κs = (
+  c .before .before .before .before .before .before .before .before .before .before .before .before .before .before .before .before .before .before .before .before .before .before .before .pre .0,
+  (
+    c .before .before .if5 .left,
+    (
+      omega (
+        arith,
+        c .before .before .before .before .before .before .before .before .if3 .left,
+        c .before .before .before .before .before .before .before .before .before .before .before .before .before .before .before .before .before .before .before .before .before .before .before .pre .0 .units-most,
+      ),
+      c .before .before .before .before .before .before .before .before .before .before .before .before .before .before .before .before .before .before .before .before .before .before .before .pre .1 .1,
+    ),
+  ),
+)
 
 returns-6 : tie.Need-returns-6
 unfolding stretch
-returns-6 c = in-taken _ _ _ _ (c .before .before .before .before .before .before .before .before .before .before .before .before .before .before .before .before .before .before .before .before .before .before .before .before .pre .0) _ _ (c .before .before .before .before .before .before .before .before .before .before .before .before .before .before .before .before .before .before .before .before .before .before .before .before .pre .1 .0) _ _ (c .before .before .before .before .before .before .before .before .before .before .before .before .before .before .before .before .before .before .before .before .before .before .shape .ensures) (c .before .before .before .before .before .before .before .before .before .before .before .before .before .before .before .before .before .before .before .before .before .if1 .left) _ (c .before .before .before .before .before .before .before .before .before .before .before .before .before .before .before .kind-of .ensures ∙ ap kindOf (word-here _ _ _ (c .before .before .before .before .before .before .before .before .before .before .before .before .before .before .before .before .before .before .before .before .before .before .before .before .pre .1 .0) 3 _ _ (omega arith) (has-field _ _ _ _ _ _ (c .before .before .before .before .before .before .before .before .before .before .before .before .before .before .before .before .before .before .before .before .before .before .before .before .pre .1 .0) 4 2 _ 3 (c .before .before .before .before .before .before .before .before .before .before .before .before .before .before .before .before .before .before .before .before .before .before .shape .ensures) (c .before .before .before .before .before .before .before .before .before .before .before .before .before .before .before .before .before .before .before .before .before .if1 .left) (omega arith)) (c .before .before .before .before .before .before .before .before .before .before .before .before .before .before .before .before .before .before .before .wide .ensures) (c .before .before .before .before .before .before .before .before .before .before .before .before .before .before .before .before .before .wide2 .ensures))) (c .before .before .before .before .before .before .before .before .before .before .before .before .before .before .if2 .left) _ (c .before .before .before .before .before .before .before .before .before .before .unit-named .ensures) (c .before .before .before .before .before .before .before .before .before .if3 .left) _ (c .before .before .before .before .before .input-named .ensures) (c .before .before .before .before .if4 .left) (c .before .before .before .if5 .left) _ _ _ (c .add-input .ensures)
+returns-6 c =
+    in-taken _ _ _ _
+    (c .before .before .before .before .before .before .before .before .before .before .before .before .before .before .before .before .before .before .before .before .before .before .before .before .pre .0)
+    _ _
+    (c .before .before .before .before .before .before .before .before .before .before .before .before .before .before .before .before .before .before .before .before .before .before .before .before .pre .1 .0)
+    _ _
+    (c .before .before .before .before .before .before .before .before .before .before .before .before .before .before .before .before .before .before .before .before .before .before .shape .ensures)
+    (c .before .before .before .before .before .before .before .before .before .before .before .before .before .before .before .before .before .before .before .before .before .if1 .left)
+    _
+    (c .before .before .before .before .before .before .before .before .before .before .before .before .before .before .before .kind-of .ensures
+    ∙ ap kindOf
+    (word-here _ _ _
+    (c .before .before .before .before .before .before .before .before .before .before .before .before .before .before .before .before .before .before .before .before .before .before .before .before .pre .1 .0)
+    3 _ _ (omega arith)
+    (has-field _ _ _ _ _ _
+    (c .before .before .before .before .before .before .before .before .before .before .before .before .before .before .before .before .before .before .before .before .before .before .before .before .pre .1 .0)
+    4 2 _ 3
+    (c .before .before .before .before .before .before .before .before .before .before .before .before .before .before .before .before .before .before .before .before .before .before .shape .ensures)
+    (c .before .before .before .before .before .before .before .before .before .before .before .before .before .before .before .before .before .before .before .before .before .if1 .left)
+    (omega arith))
+    (c .before .before .before .before .before .before .before .before .before .before .before .before .before .before .before .before .before .before .before .wide .ensures)
+    (c .before .before .before .before .before .before .before .before .before .before .before .before .before .before .before .before .before .wide2 .ensures)))
+    (c .before .before .before .before .before .before .before .before .before .before .before .before .before .before .if2 .left)
+    _ (c .before .before .before .before .before .before .before .before .before .before .unit-named .ensures)
+    (c .before .before .before .before .before .before .before .before .before .if3 .left) _
+    (c .before .before .before .before .before .input-named .ensures)
+    (c .before .before .before .before .if4 .left) (c .before .before .before .if5 .left) _ _ _
+    (c .add-input .ensures)
 
 pub in-line-spec : {M : Type 1} → statement M
 in-line-spec =

@@ -23,11 +23,19 @@ same-requires-2 c κs = search needs
 
 returns-2 : tie.Need-returns-2
 unfolding kindOf
-returns-2 c = rw (sym (c .before .before .before .before .same .ensures) ∙ c .before .before .before .if1 .left, sym (c .before .same2 .ensures) ∙ c .if2 .taken)
+returns-2 c =
+    rw (
+      sym (c .before .before .before .before .same .ensures) ∙ c .before .before .before .if1 .left,
+      sym (c .before .same2 .ensures) ∙ c .if2 .taken,
+    )
 
 returns-3 : tie.Need-returns-3
 unfolding kindOf
-returns-3 c = rw (sym (c .before .before .before .before .same .ensures) ∙ c .before .before .before .if1 .left, sym (c .before .same2 .ensures) ∙ c .if2 .left)
+returns-3 c =
+    rw (
+      sym (c .before .before .before .before .same .ensures) ∙ c .before .before .before .if1 .left,
+      sym (c .before .same2 .ensures) ∙ c .if2 .left,
+    )
 
 pub kind-of-spec : {M : Type 1} → statement M
 kind-of-spec =

@@ -9,7 +9,9 @@ shape-requires : tie.Need-shape-requires
 shape-requires c κs = search needs
 
 returns : tie.Need-returns
-returns c = out-stops _ _ _ _ (c .before .before .before .pre .0) _ _ (c .before .before .before .pre .1) _ (c .before .shape .ensures) (c .if1 .taken)
+returns c =
+    out-stops _ _ _ _ (c .before .before .before .pre .0) _ _ (c .before .before .before .pre .1) _
+    (c .before .shape .ensures) (c .if1 .taken)
 
 element-copy-out-unit-named : tie.Need-element-copy-out-unit-named
 element-copy-out-unit-named c = search needs
@@ -18,7 +20,11 @@ unit-named-requires : tie.Need-unit-named-requires
 unit-named-requires c κs = search needs
 
 returns-2 : tie.Need-returns-2
-returns-2 c = out-27 _ _ _ _ (c .before .before .before .before .before .before .before .before .pre .0) _ _ (c .before .before .before .before .before .before .before .before .pre .1) _ (c .before .before .before .before .before .before .shape .ensures) (c .before .before .before .before .before .if1 .left) _ (c .before .unit-named .ensures) (c .if2 .taken)
+returns-2 c =
+    out-27 _ _ _ _ (c .before .before .before .before .before .before .before .before .pre .0) _ _
+    (c .before .before .before .before .before .before .before .before .pre .1) _
+    (c .before .before .before .before .before .before .shape .ensures)
+    (c .before .before .before .before .before .if1 .left) _ (c .before .unit-named .ensures) (c .if2 .taken)
 
 element-copy-out-a : tie.Need-element-copy-out-a
 element-copy-out-a c = search needs
@@ -27,16 +33,57 @@ output-named-requires : tie.Need-output-named-requires
 output-named-requires c κs = search needs
 
 returns-3 : tie.Need-returns-3
-returns-3 c = out-26 _ _ _ _ (c .before .before .before .before .before .before .before .before .before .before .before .before .before .pre .0) _ _ (c .before .before .before .before .before .before .before .before .before .before .before .before .before .pre .1) _ (c .before .before .before .before .before .before .before .before .before .before .before .shape .ensures) (c .before .before .before .before .before .before .before .before .before .before .if1 .left) _ (c .before .before .before .before .before .before .unit-named .ensures) (c .before .before .before .before .before .if2 .left) _ (c .before .output-named .ensures) (c .if3 .taken)
+returns-3 c =
+    out-26 _ _ _ _
+    (c .before .before .before .before .before .before .before .before .before .before .before .before .before .pre .0)
+    _ _
+    (c .before .before .before .before .before .before .before .before .before .before .before .before .before .pre .1)
+    _
+    (c .before .before .before .before .before .before .before .before .before .before .before .shape .ensures)
+    (c .before .before .before .before .before .before .before .before .before .before .if1 .left) _
+    (c .before .before .before .before .before .before .unit-named .ensures)
+    (c .before .before .before .before .before .if2 .left) _ (c .before .output-named .ensures) (c .if3 .taken)
 
 returns-4 : tie.Need-returns-4
-returns-4 c = out-29 _ _ _ _ (c .before .before .before .before .before .before .before .before .before .before .before .before .before .before .pre .0) _ _ (c .before .before .before .before .before .before .before .before .before .before .before .before .before .before .pre .1) _ (c .before .before .before .before .before .before .before .before .before .before .before .before .shape .ensures) (c .before .before .before .before .before .before .before .before .before .before .before .if1 .left) _ (c .before .before .before .before .before .before .before .unit-named .ensures) (c .before .before .before .before .before .before .if2 .left) _ (c .before .before .output-named .ensures) (c .before .if3 .left) (c .if4 .taken)
+returns-4 c =
+    out-29 _ _ _ _
+    (c .before .before .before .before .before .before .before .before .before .before .before .before .before .before .pre .0)
+    _ _
+    (c .before .before .before .before .before .before .before .before .before .before .before .before .before .before .pre .1)
+    _
+    (c .before .before .before .before .before .before .before .before .before .before .before .before .shape .ensures)
+    (c .before .before .before .before .before .before .before .before .before .before .before .if1 .left) _
+    (c .before .before .before .before .before .before .before .unit-named .ensures)
+    (c .before .before .before .before .before .before .if2 .left) _ (c .before .before .output-named .ensures)
+    (c .before .if3 .left) (c .if4 .taken)
 
 add-output-requires : tie.Need-add-output-requires
-add-output-requires c κs = (c .before .before .before .before .before .before .before .before .before .before .before .before .before .before .before .before .pre .0, (c .before .before .if4 .left, omega (arith, c .before .before .before .before .before .before .before .before .if2 .left, c .before .before .before .before .before .before .before .before .before .before .before .before .before .before .before .before .pre .0 .units-most)))
+add-output-requires c κs = (
+  c .before .before .before .before .before .before .before .before .before .before .before .before .before .before .before .before .pre .0,
+  (
+    c .before .before .if4 .left,
+    omega (
+      arith,
+      c .before .before .before .before .before .before .before .before .if2 .left,
+      c .before .before .before .before .before .before .before .before .before .before .before .before .before .before .before .before .pre .0 .units-most,
+    ),
+  ),
+)
 
 returns-5 : tie.Need-returns-5
-returns-5 c = out-taken _ _ _ _ (c .before .before .before .before .before .before .before .before .before .before .before .before .before .before .before .before .before .pre .0) _ _ (c .before .before .before .before .before .before .before .before .before .before .before .before .before .before .before .before .before .pre .1) _ (c .before .before .before .before .before .before .before .before .before .before .before .before .before .before .before .shape .ensures) (c .before .before .before .before .before .before .before .before .before .before .before .before .before .before .if1 .left) _ (c .before .before .before .before .before .before .before .before .before .before .unit-named .ensures) (c .before .before .before .before .before .before .before .before .before .if2 .left) _ (c .before .before .before .before .before .output-named .ensures) (c .before .before .before .before .if3 .left) (c .before .before .before .if4 .left) _ _ _ (c .add-output .ensures)
+returns-5 c =
+    out-taken _ _ _ _
+    (c .before .before .before .before .before .before .before .before .before .before .before .before .before .before .before .before .before .pre .0)
+    _ _
+    (c .before .before .before .before .before .before .before .before .before .before .before .before .before .before .before .before .before .pre .1)
+    _
+    (c .before .before .before .before .before .before .before .before .before .before .before .before .before .before .before .shape .ensures)
+    (c .before .before .before .before .before .before .before .before .before .before .before .before .before .before .if1 .left)
+    _ (c .before .before .before .before .before .before .before .before .before .before .unit-named .ensures)
+    (c .before .before .before .before .before .before .before .before .before .if2 .left) _
+    (c .before .before .before .before .before .output-named .ensures)
+    (c .before .before .before .before .if3 .left) (c .before .before .before .if4 .left) _ _ _
+    (c .add-output .ensures)
 
 pub out-line-spec : {M : Type 1} → statement M
 out-line-spec =

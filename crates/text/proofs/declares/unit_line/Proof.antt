@@ -8,7 +8,9 @@ shape-requires : tie.Need-shape-requires
 shape-requires c κs = search needs
 
 returns : tie.Need-returns
-returns c = unit-stops _ _ _ _ (c .before .before .before .pre .0) _ _ (c .before .before .before .pre .1) _ (c .before .shape .ensures) (c .if1 .taken)
+returns c =
+    unit-stops _ _ _ _ (c .before .before .before .pre .0) _ _ (c .before .before .before .pre .1) _
+    (c .before .shape .ensures) (c .if1 .taken)
 
 element-copy-out-a : tie.Need-element-copy-out-a
 element-copy-out-a c = search needs
@@ -17,16 +19,34 @@ unit-named-requires : tie.Need-unit-named-requires
 unit-named-requires c κs = search needs
 
 returns-2 : tie.Need-returns-2
-returns-2 c = unit-26 _ _ _ _ (c .before .before .before .before .before .before .before .before .pre .0) _ _ (c .before .before .before .before .before .before .before .before .pre .1) _ (c .before .before .before .before .before .before .shape .ensures) (c .before .before .before .before .before .if1 .left) _ (c .before .unit-named .ensures) (c .if2 .taken)
+returns-2 c =
+    unit-26 _ _ _ _ (c .before .before .before .before .before .before .before .before .pre .0) _ _
+    (c .before .before .before .before .before .before .before .before .pre .1) _
+    (c .before .before .before .before .before .before .shape .ensures)
+    (c .before .before .before .before .before .if1 .left) _ (c .before .unit-named .ensures) (c .if2 .taken)
 
 returns-3 : tie.Need-returns-3
-returns-3 c = unit-29 _ _ _ _ (c .before .before .before .before .before .before .before .before .before .pre .0) _ _ (c .before .before .before .before .before .before .before .before .before .pre .1) _ (c .before .before .before .before .before .before .before .shape .ensures) (c .before .before .before .before .before .before .if1 .left) _ (c .before .before .unit-named .ensures) (c .before .if2 .left) (c .if3 .taken)
+returns-3 c =
+    unit-29 _ _ _ _ (c .before .before .before .before .before .before .before .before .before .pre .0) _ _
+    (c .before .before .before .before .before .before .before .before .before .pre .1) _
+    (c .before .before .before .before .before .before .before .shape .ensures)
+    (c .before .before .before .before .before .before .if1 .left) _ (c .before .before .unit-named .ensures)
+    (c .before .if2 .left) (c .if3 .taken)
 
 add-unit-requires : tie.Need-add-unit-requires
 add-unit-requires c κs = search needs
 
 returns-4 : tie.Need-returns-4
-returns-4 c = unit-taken _ _ _ _ (c .before .before .before .before .before .before .before .before .before .before .before .before .pre .0) _ _ (c .before .before .before .before .before .before .before .before .before .before .before .before .pre .1) _ (c .before .before .before .before .before .before .before .before .before .before .shape .ensures) (c .before .before .before .before .before .before .before .before .before .if1 .left) _ (c .before .before .before .before .before .unit-named .ensures) (c .before .before .before .before .if2 .left) (c .before .before .before .if3 .left) _ _ _ (c .add-unit .ensures)
+returns-4 c =
+    unit-taken _ _ _ _
+    (c .before .before .before .before .before .before .before .before .before .before .before .before .pre .0)
+    _ _
+    (c .before .before .before .before .before .before .before .before .before .before .before .before .pre .1)
+    _ (c .before .before .before .before .before .before .before .before .before .before .shape .ensures)
+    (c .before .before .before .before .before .before .before .before .before .if1 .left) _
+    (c .before .before .before .before .before .unit-named .ensures)
+    (c .before .before .before .before .if2 .left) (c .before .before .before .if3 .left) _ _ _
+    (c .add-unit .ensures)
 
 pub unit-line-spec : {M : Type 1} → statement M
 unit-line-spec =

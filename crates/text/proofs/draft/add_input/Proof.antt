@@ -41,7 +41,9 @@ add-more : tie.Need-add-more
 add-more c = search needs
 
 returns : tie.Need-returns
-returns c = input-noted _ _ _ _ (c .before .before .before .before .pre .0) _ _ _ _ _ _ (c .before .before .before .before .pre .1 .0) (c .note .ensures)
+returns c =
+    input-noted _ _ _ _ (c .before .before .before .before .pre .0) _ _ _ _ _ _
+    (c .before .before .before .before .pre .1 .0) (c .note .ensures)
 
 pub add-input-spec : {M : Type 1} → statement M
 add-input-spec =

@@ -17,7 +17,9 @@ add-more : tie.Need-add-more
 add-more c = search needs
 
 returns : tie.Need-returns
-returns c = output-noted _ _ _ _ (c .before .before .before .before .pre .0) _ _ _ _ (c .before .before .before .before .pre .1 .0) (c .note .ensures)
+returns c =
+    output-noted _ _ _ _ (c .before .before .before .before .pre .0) _ _ _ _
+    (c .before .before .before .before .pre .1 .0) (c .note .ensures)
 
 pub add-output-spec : {M : Type 1} → statement M
 add-output-spec = tie.close (tie.spec add-note cast-note note-requires add-more returns)

@@ -11,7 +11,9 @@ add-more : tie.Need-add-more
 add-more c = search needs
 
 returns : tie.Need-returns
-returns c = unit-noted _ _ _ _ (c .before .before .before .before .pre .0) _ _ _ (c .before .before .before .before .pre .1) (c .note .ensures)
+returns c =
+    unit-noted _ _ _ _ (c .before .before .before .before .pre .0) _ _ _
+    (c .before .before .before .before .pre .1) (c .note .ensures)
 
 pub add-unit-spec : {M : Type 1} → statement M
 add-unit-spec = tie.close (tie.spec note-requires add-more returns)

@@ -41,7 +41,11 @@ element-copy-out-if2 : tie.Need-element-copy-out-if2 Inv-loop μ-loop
 element-copy-out-if2 c = omega (arith, c .before .before .before .before .pre .feeds-most)
 
 returns : tie.Need-returns Inv-loop μ-loop
-returns c = found _ _ _ (c .before .before .before .before .loop-test .taken) (c .before .before .before .before .before .loop .inv .1) (fed-here _ _ _ _ (c .before .before .if1 .taken) (eqb-true _ _ (c .if2 .taken))) ∙ feed-found _ _ _ _ _ _
+returns c =
+    found _ _ _ (c .before .before .before .before .loop-test .taken)
+    (c .before .before .before .before .before .loop .inv .1)
+    (fed-here _ _ _ _ (c .before .before .if1 .taken) (eqb-true _ _ (c .if2 .taken)))
+    ∙ feed-found _ _ _ _ _ _
 
 add-k : tie.Need-add-k Inv-loop μ-loop
 add-k c = omega arith
@@ -50,10 +54,16 @@ loop-less : tie.Need-loop-less Inv-loop μ-loop
 loop-less c = omega arith
 
 loop-again : tie.Need-loop-again Inv-loop μ-loop
-loop-again c = (omega arith, below-more _ _ (c .before .before .before .loop .inv .1) (⊎-elim (λ w. other-output _ _ _ _ (w .0 .taken) (eqb-false _ _ (w .2 .left))) (λ w. other-input _ _ _ _ (w .left)) (c .if1 .came)))
+loop-again c = (
+  omega arith,
+  below-more _ _ (c .before .before .before .loop .inv .1)
+      (⊎-elim (λ w. other-output _ _ _ _ (w .0 .taken) (eqb-false _ _ (w .2 .left)))
+      (λ w. other-input _ _ _ _ (w .left)) (c .if1 .came)),
+)
 
 returns-2 : tie.Need-returns-2 Inv-loop μ-loop
-returns-2 c = not-found _ _ _ (omega arith) (c .before .loop .inv .0) (c .before .loop .inv .1) ∙ feed-found _ _ _ _ _ _
+returns-2 c =
+    not-found _ _ _ (omega arith) (c .before .loop .inv .0) (c .before .loop .inv .1) ∙ feed-found _ _ _ _ _ _
 
 pub feed-of-spec : {M : Type 1} → statement M
 feed-of-spec =

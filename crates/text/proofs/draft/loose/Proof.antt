@@ -29,7 +29,10 @@ element-copy-out-if1 c = omega (arith, c .before .before .pre .inputs-most)
 
 returns : tie.Need-returns Inv-loop μ-loop
 unfolding isLoose
-returns c = found _ _ _ (c .before .before .loop-test .taken) (c .before .before .before .loop .inv .1) (eq-true _ _ (c .if1 .taken)) ∙ loose-found _ _ _ _
+returns c =
+    found _ _ _ (c .before .before .loop-test .taken) (c .before .before .before .loop .inv .1)
+    (eq-true _ _ (c .if1 .taken))
+    ∙ loose-found _ _ _ _
 
 add-x : tie.Need-add-x Inv-loop μ-loop
 add-x c = omega arith
@@ -39,10 +42,12 @@ loop-less c = omega arith
 
 loop-again : tie.Need-loop-again Inv-loop μ-loop
 unfolding isLoose
-loop-again c = (omega arith, below-more _ _ (c .before .before .before .loop .inv .1) (eq-false _ _ (c .if1 .left)))
+loop-again c =
+    (omega arith, below-more _ _ (c .before .before .before .loop .inv .1) (eq-false _ _ (c .if1 .left)))
 
 returns-2 : tie.Need-returns-2 Inv-loop μ-loop
-returns-2 c = not-found _ _ _ (omega arith) (c .before .loop .inv .0) (c .before .loop .inv .1) ∙ loose-found _ _ _ _
+returns-2 c =
+    not-found _ _ _ (omega arith) (c .before .loop .inv .0) (c .before .loop .inv .1) ∙ loose-found _ _ _ _
 
 pub loose-spec : {M : Type 1} → statement M
 loose-spec =

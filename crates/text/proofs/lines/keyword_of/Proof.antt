@@ -23,7 +23,11 @@ same-requires-2 c κs = search needs
 
 returns-2 : tie.Need-returns-2
 unfolding keywordOf
-returns-2 c = rw (sym (c .before .before .before .before .same .ensures) ∙ c .before .before .before .if1 .left, sym (c .before .same2 .ensures) ∙ c .if2 .taken)
+returns-2 c =
+    rw (
+      sym (c .before .before .before .before .same .ensures) ∙ c .before .before .before .if1 .left,
+      sym (c .before .same2 .ensures) ∙ c .if2 .taken,
+    )
 
 slice-aggregate-same-3 : tie.Need-slice-aggregate-same-3
 slice-aggregate-same-3 c = search needs
@@ -33,7 +37,13 @@ same-requires-3 c κs = search needs
 
 returns-3 : tie.Need-returns-3
 unfolding keywordOf
-returns-3 c = rw (sym (c .before .before .before .before .before .before .before .same .ensures) ∙ c .before .before .before .before .before .before .if1 .left, sym (c .before .before .before .before .same2 .ensures) ∙ c .before .before .before .if2 .left, sym (c .before .same3 .ensures) ∙ c .if3 .taken)
+returns-3 c =
+    rw (
+      sym (c .before .before .before .before .before .before .before .same .ensures)
+          ∙ c .before .before .before .before .before .before .if1 .left,
+      sym (c .before .before .before .before .same2 .ensures) ∙ c .before .before .before .if2 .left,
+      sym (c .before .same3 .ensures) ∙ c .if3 .taken,
+    )
 
 slice-aggregate-same-4 : tie.Need-slice-aggregate-same-4
 slice-aggregate-same-4 c = search needs
@@ -43,7 +53,15 @@ same-requires-4 c κs = search needs
 
 returns-4 : tie.Need-returns-4
 unfolding keywordOf
-returns-4 c = rw (sym (c .before .before .before .before .before .before .before .before .before .before .same .ensures) ∙ c .before .before .before .before .before .before .before .before .before .if1 .left, sym (c .before .before .before .before .before .before .before .same2 .ensures) ∙ c .before .before .before .before .before .before .if2 .left, sym (c .before .before .before .before .same3 .ensures) ∙ c .before .before .before .if3 .left, sym (c .before .same4 .ensures) ∙ c .if4 .taken)
+returns-4 c =
+    rw (
+      sym (c .before .before .before .before .before .before .before .before .before .before .same .ensures)
+          ∙ c .before .before .before .before .before .before .before .before .before .if1 .left,
+      sym (c .before .before .before .before .before .before .before .same2 .ensures)
+          ∙ c .before .before .before .before .before .before .if2 .left,
+      sym (c .before .before .before .before .same3 .ensures) ∙ c .before .before .before .if3 .left,
+      sym (c .before .same4 .ensures) ∙ c .if4 .taken,
+    )
 
 slice-aggregate-same-5 : tie.Need-slice-aggregate-same-5
 slice-aggregate-same-5 c = search needs
@@ -53,11 +71,33 @@ same-requires-5 c κs = search needs
 
 returns-5 : tie.Need-returns-5
 unfolding keywordOf
-returns-5 c = rw (sym (c .before .before .before .before .before .before .before .before .before .before .before .before .before .same .ensures) ∙ c .before .before .before .before .before .before .before .before .before .before .before .before .if1 .left, sym (c .before .before .before .before .before .before .before .before .before .before .same2 .ensures) ∙ c .before .before .before .before .before .before .before .before .before .if2 .left, sym (c .before .before .before .before .before .before .before .same3 .ensures) ∙ c .before .before .before .before .before .before .if3 .left, sym (c .before .before .before .before .same4 .ensures) ∙ c .before .before .before .if4 .left, sym (c .before .same5 .ensures) ∙ c .if5 .taken)
+returns-5 c =
+    rw (
+      sym
+          (c .before .before .before .before .before .before .before .before .before .before .before .before .before .same .ensures)
+          ∙ c .before .before .before .before .before .before .before .before .before .before .before .before .if1 .left,
+      sym (c .before .before .before .before .before .before .before .before .before .before .same2 .ensures)
+          ∙ c .before .before .before .before .before .before .before .before .before .if2 .left,
+      sym (c .before .before .before .before .before .before .before .same3 .ensures)
+          ∙ c .before .before .before .before .before .before .if3 .left,
+      sym (c .before .before .before .before .same4 .ensures) ∙ c .before .before .before .if4 .left,
+      sym (c .before .same5 .ensures) ∙ c .if5 .taken,
+    )
 
 returns-6 : tie.Need-returns-6
 unfolding keywordOf
-returns-6 c = rw (sym (c .before .before .before .before .before .before .before .before .before .before .before .before .before .same .ensures) ∙ c .before .before .before .before .before .before .before .before .before .before .before .before .if1 .left, sym (c .before .before .before .before .before .before .before .before .before .before .same2 .ensures) ∙ c .before .before .before .before .before .before .before .before .before .if2 .left, sym (c .before .before .before .before .before .before .before .same3 .ensures) ∙ c .before .before .before .before .before .before .if3 .left, sym (c .before .before .before .before .same4 .ensures) ∙ c .before .before .before .if4 .left, sym (c .before .same5 .ensures) ∙ c .if5 .left)
+returns-6 c =
+    rw (
+      sym
+          (c .before .before .before .before .before .before .before .before .before .before .before .before .before .same .ensures)
+          ∙ c .before .before .before .before .before .before .before .before .before .before .before .before .if1 .left,
+      sym (c .before .before .before .before .before .before .before .before .before .before .same2 .ensures)
+          ∙ c .before .before .before .before .before .before .before .before .before .if2 .left,
+      sym (c .before .before .before .before .before .before .before .same3 .ensures)
+          ∙ c .before .before .before .before .before .before .if3 .left,
+      sym (c .before .before .before .before .same4 .ensures) ∙ c .before .before .before .if4 .left,
+      sym (c .before .same5 .ensures) ∙ c .if5 .left,
+    )
 
 pub keyword-of-spec : {M : Type 1} → statement M
 keyword-of-spec =

@@ -20,13 +20,22 @@ wide-requires-2 : tie.Need-wide-requires-2
 wide-requires-2 c κs = search needs
 
 sub-keyword-of : tie.Need-sub-keyword-of
-sub-keyword-of c = word-ends _ _ _ (c .before .before .before .before .before .pre .1 .0) 0 _ _ (omega arith) (c .before .before .before .before .before .pre .1 .0 .some) (c .before .before .wide .ensures) (c .wide2 .ensures) .0
+sub-keyword-of c =
+    word-ends _ _ _ (c .before .before .before .before .before .pre .1 .0) 0 _ _ (omega arith)
+    (c .before .before .before .before .before .pre .1 .0 .some) (c .before .before .wide .ensures)
+    (c .wide2 .ensures) .0
 
 part-keyword-of-start : tie.Need-part-keyword-of-start
-part-keyword-of-start c = word-ends _ _ _ (c .before .before .before .before .before .pre .1 .0) 0 _ _ (omega arith) (c .before .before .before .before .before .pre .1 .0 .some) (c .before .before .wide .ensures) (c .wide2 .ensures) .0
+part-keyword-of-start c =
+    word-ends _ _ _ (c .before .before .before .before .before .pre .1 .0) 0 _ _ (omega arith)
+    (c .before .before .before .before .before .pre .1 .0 .some) (c .before .before .wide .ensures)
+    (c .wide2 .ensures) .0
 
 part-keyword-of-end : tie.Need-part-keyword-of-end
-part-keyword-of-end c = word-ends _ _ _ (c .before .before .before .before .before .pre .1 .0) 0 _ _ (omega arith) (c .before .before .before .before .before .pre .1 .0 .some) (c .before .before .wide .ensures) (c .wide2 .ensures) .1
+part-keyword-of-end c =
+    word-ends _ _ _ (c .before .before .before .before .before .pre .1 .0) 0 _ _ (omega arith)
+    (c .before .before .before .before .before .pre .1 .0 .some) (c .before .before .wide .ensures)
+    (c .wide2 .ensures) .1
 
 keyword-of-requires : tie.Need-keyword-of-requires
 keyword-of-requires c κs = search needs
@@ -48,27 +57,68 @@ join-line-requires c κs = search needs
 
 returns : tie.Need-returns
 unfolding stretch
-returns c = retold (c .unit-line .ensures) (line-unit _ _ _ _ _ (c .before .before .before .before .keyword-of .ensures) (first-word _ _ _ (c .before .before .before .before .before .before .before .before .before .before .before .pre .1 .0) _ _ (c .before .before .before .before .before .before .before .before .wide .ensures) (c .before .before .before .before .before .before .wide2 .ensures)) (c .before .before .before .match .keys1))
+returns c =
+    retold (c .unit-line .ensures)
+    (line-unit _ _ _ _ _ (c .before .before .before .before .keyword-of .ensures)
+    (first-word _ _ _
+    (c .before .before .before .before .before .before .before .before .before .before .before .pre .1 .0) _ _
+    (c .before .before .before .before .before .before .before .before .wide .ensures)
+    (c .before .before .before .before .before .before .wide2 .ensures))
+    (c .before .before .before .match .keys1))
 
 returns-2 : tie.Need-returns-2
 unfolding stretch
-returns-2 c = retold (c .out-line .ensures) (line-out _ _ _ _ _ (c .before .before .before .before .keyword-of .ensures) (first-word _ _ _ (c .before .before .before .before .before .before .before .before .before .before .before .pre .1 .0) _ _ (c .before .before .before .before .before .before .before .before .wide .ensures) (c .before .before .before .before .before .before .wide2 .ensures)) (c .before .before .before .match .keys2))
+returns-2 c =
+    retold (c .out-line .ensures)
+    (line-out _ _ _ _ _ (c .before .before .before .before .keyword-of .ensures)
+    (first-word _ _ _
+    (c .before .before .before .before .before .before .before .before .before .before .before .pre .1 .0) _ _
+    (c .before .before .before .before .before .before .before .before .wide .ensures)
+    (c .before .before .before .before .before .before .wide2 .ensures))
+    (c .before .before .before .match .keys2))
 
 returns-3 : tie.Need-returns-3
 unfolding stretch
-returns-3 c = retold (c .in-line .ensures) (line-in _ _ _ _ _ (c .before .before .before .before .keyword-of .ensures) (first-word _ _ _ (c .before .before .before .before .before .before .before .before .before .before .before .pre .1 .0) _ _ (c .before .before .before .before .before .before .before .before .wide .ensures) (c .before .before .before .before .before .before .wide2 .ensures)) (c .before .before .before .match .keys3))
+returns-3 c =
+    retold (c .in-line .ensures)
+    (line-in _ _ _ _ _ (c .before .before .before .before .keyword-of .ensures)
+    (first-word _ _ _
+    (c .before .before .before .before .before .before .before .before .before .before .before .pre .1 .0) _ _
+    (c .before .before .before .before .before .before .before .before .wide .ensures)
+    (c .before .before .before .before .before .before .wide2 .ensures))
+    (c .before .before .before .match .keys3))
 
 returns-4 : tie.Need-returns-4
 unfolding stretch
-returns-4 c = retold (c .feed-line .ensures) (line-feed _ _ _ _ _ (c .before .before .before .before .keyword-of .ensures) (first-word _ _ _ (c .before .before .before .before .before .before .before .before .before .before .before .pre .1 .0) _ _ (c .before .before .before .before .before .before .before .before .wide .ensures) (c .before .before .before .before .before .before .wide2 .ensures)) (c .before .before .before .match .keys4))
+returns-4 c =
+    retold (c .feed-line .ensures)
+    (line-feed _ _ _ _ _ (c .before .before .before .before .keyword-of .ensures)
+    (first-word _ _ _
+    (c .before .before .before .before .before .before .before .before .before .before .before .pre .1 .0) _ _
+    (c .before .before .before .before .before .before .before .before .wide .ensures)
+    (c .before .before .before .before .before .before .wide2 .ensures))
+    (c .before .before .before .match .keys4))
 
 returns-5 : tie.Need-returns-5
 unfolding stretch
-returns-5 c = retold (c .join-line .ensures) (line-join _ _ _ _ _ (c .before .before .before .before .keyword-of .ensures) (first-word _ _ _ (c .before .before .before .before .before .before .before .before .before .before .before .pre .1 .0) _ _ (c .before .before .before .before .before .before .before .before .wide .ensures) (c .before .before .before .before .before .before .wide2 .ensures)) (c .before .before .before .match .keys5))
+returns-5 c =
+    retold (c .join-line .ensures)
+    (line-join _ _ _ _ _ (c .before .before .before .before .keyword-of .ensures)
+    (first-word _ _ _
+    (c .before .before .before .before .before .before .before .before .before .before .before .pre .1 .0) _ _
+    (c .before .before .before .before .before .before .before .before .wide .ensures)
+    (c .before .before .before .before .before .before .wide2 .ensures))
+    (c .before .before .before .match .keys5))
 
 returns-6 : tie.Need-returns-6
 unfolding stretch
-returns-6 c = stays _ _ _ _ (c .before .before .before .before .before .before .before .before .pre .0) 24 _ (line-none _ _ _ _ _ (c .before .keyword-of .ensures) (first-word _ _ _ (c .before .before .before .before .before .before .before .before .pre .1 .0) _ _ (c .before .before .before .before .before .wide .ensures) (c .before .before .before .wide2 .ensures)) (c .match .rest .0 .0 .0 .0 .1) (c .match .rest .0 .0 .0 .1) (c .match .rest .0 .0 .1) (c .match .rest .0 .1) (c .match .rest .1))
+returns-6 c =
+    stays _ _ _ _ (c .before .before .before .before .before .before .before .before .pre .0) 24 _
+    (line-none _ _ _ _ _ (c .before .keyword-of .ensures)
+    (first-word _ _ _ (c .before .before .before .before .before .before .before .before .pre .1 .0) _ _
+    (c .before .before .before .before .before .wide .ensures) (c .before .before .before .wide2 .ensures))
+    (c .match .rest .0 .0 .0 .0 .1) (c .match .rest .0 .0 .0 .1) (c .match .rest .0 .0 .1)
+    (c .match .rest .0 .1) (c .match .rest .1))
 
 pub line-spec : {M : Type 1} → statement M
 line-spec =

@@ -16,7 +16,8 @@ use Rattle.notes.specs.Notes.{isNamed}
 use Rattle.notes.proofs.Found.{passed-over}
 
 abbrev Inv-loop : tie.InvT-loop
-Inv-loop text places slots base count owner a m i₀ i = (i ≤ count) × ((k : ℕ) → k < i → T (not (isNamed text places slots owner (fieldAt text a) (base + k))))
+Inv-loop text places slots base count owner a m i₀ i =
+    (i ≤ count) × ((k : ℕ) → k < i → T (not (isNamed text places slots owner (fieldAt text a) (base + k))))
 
 abbrev μ-loop : tie.MeasureT-loop
 μ-loop text places slots base count owner a m i₀ i = count - i
@@ -40,7 +41,10 @@ is-named-requires : tie.Need-is-named-requires Inv-loop μ-loop
 is-named-requires c κs = omega (arith, c .before .before .before .before .before .before .pre .low)
 
 returns : tie.Need-returns Inv-loop μ-loop
-returns c = found _ _ _ (c .before .before .before .before .loop-test .taken) (c .before .before .before .before .before .loop .inv .1) (says (c .before .is-named .ensures) (c .if2 .taken))
+returns c =
+    found _ _ _ (c .before .before .before .before .loop-test .taken)
+    (c .before .before .before .before .before .loop .inv .1)
+    (says (c .before .is-named .ensures) (c .if2 .taken))
 
 add-i : tie.Need-add-i Inv-loop μ-loop
 add-i c = omega arith
@@ -49,7 +53,15 @@ loop-less : tie.Need-loop-less Inv-loop μ-loop
 loop-less c = omega arith
 
 loop-again : tie.Need-loop-again Inv-loop μ-loop
-loop-again c = (omega arith, below-more _ _ (c .before .before .before .loop .inv .1) (⊎-elim (λ w. denies (w .1 .ensures) (w .2 .left)) (λ w. passed-over _ _ _ _ _ _ (c .before .before .before .before .before .before .pre .marked _ (c .before .before .loop-test .taken)) (λ e. w .left (e ∙ sym (c .before .before .before .before .mark .ensures)))) (c .if1 .came)))
+loop-again c = (
+  omega arith,
+  below-more _ _ (c .before .before .before .loop .inv .1)
+      (⊎-elim (λ w. denies (w .1 .ensures) (w .2 .left))
+      (λ w.
+      passed-over _ _ _ _ _ _
+      (c .before .before .before .before .before .before .pre .marked _ (c .before .before .loop-test .taken))
+      (λ e. w .left (e ∙ sym (c .before .before .before .before .mark .ensures)))) (c .if1 .came)),
+)
 
 returns-2 : tie.Need-returns-2 Inv-loop μ-loop
 returns-2 c = not-found _ _ _ (omega arith) (c .before .loop .inv .0) (c .before .loop .inv .1)

@@ -27,7 +27,9 @@ same-field-requires : tie.Need-same-field-requires
 same-field-requires c κs = search needs
 
 returns-2 : tie.Need-returns-2
-returns-2 c = c .same-field .ensures ∙ own-name _ _ _ _ _ _ _ (c .before .before .before .if1 .left) (c .before .wide .ensures)
+returns-2 c =
+    c .same-field .ensures
+    ∙ own-name _ _ _ _ _ _ _ (c .before .before .before .if1 .left) (c .before .wide .ensures)
 
 pub is-named-spec : {M : Type 1} → statement M
 is-named-spec =

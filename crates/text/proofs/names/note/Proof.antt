@@ -23,7 +23,9 @@ element-write-slots-2 : tie.Need-element-write-slots-2
 element-write-slots-2 c = search needs
 
 returns : tie.Need-returns
-returns c = name-noted _ _ _ _ _ _ _ (c .before .before .pre .0) (c .before .before .pre .1 .0) (c .before .before .pre .1 .1) (c .mark .ensures)
+returns c =
+    name-noted _ _ _ _ _ _ _ (c .before .before .pre .0) (c .before .before .pre .1 .0)
+    (c .before .before .pre .1 .1) (c .mark .ensures)
 
 pub note-spec : {M : Type 1} → statement M
 note-spec =

@@ -23,7 +23,9 @@ wide-requires : tie.Need-wide-requires
 wide-requires c κs = search needs
 
 returns-2 : tie.Need-returns-2
-returns-2 c = close-31 _ _ _ _ (c .before .before .before .before .if1 .left) _ (c .before .before .before .loose .ensures) (c .before .before .if2 .taken) _ (c .wide .ensures)
+returns-2 c =
+    close-31 _ _ _ _ (c .before .before .before .before .if1 .left) _
+    (c .before .before .before .loose .ensures) (c .before .before .if2 .taken) _ (c .wide .ensures)
 
 returns-3 : tie.Need-returns-3
 returns-3 c = close-none _ _ _ _ (c .before .before .if1 .left) _ (c .before .loose .ensures) (c .if2 .left)

@@ -35,19 +35,54 @@ element-copy-out-size-2 : tie.Need-element-copy-out-size-2 Inv-loop μ-loop
 element-copy-out-size-2 c = search needs
 
 sub-size : tie.Need-sub-size Inv-loop μ-loop
-sub-size c = omega (arith, field-size _ _ _ _ _ _ (c .before .before .before .before .pre .0) (c .before .before .before .loop .i + 1) (omega arith) (omega arith))
+sub-size c =
+    omega (
+      arith,
+      field-size _ _ _ _ _ _ (c .before .before .before .before .pre .0)
+          (c .before .before .before .loop .i + 1) (omega arith) (omega arith),
+    )
 
 returns : tie.Need-returns Inv-loop μ-loop
-returns c = faulty-first _ _ _ (c .before .before .before .before .loop .inv .1) (no-name-empty _ (omega (arith, field-size _ _ _ _ _ _ (c .before .before .before .before .before .pre .0) (c .before .before .before .before .loop .i + 1) (omega arith) (omega arith)))) (c .before .before .before .loop-test .taken)
+returns c =
+    faulty-first _ _ _ (c .before .before .before .before .loop .inv .1)
+    (no-name-empty _
+    (omega (
+      arith,
+      field-size _ _ _ _ _ _ (c .before .before .before .before .before .pre .0)
+          (c .before .before .before .before .loop .i + 1) (omega arith) (omega arith),
+    ))) (c .before .before .before .loop-test .taken)
 
 returns-2 : tie.Need-returns-2 Inv-loop μ-loop
-returns-2 c = faulty-first _ _ _ (c .before .before .before .before .before .loop .inv .1) (no-name-long _ (omega (arith, field-size _ _ _ _ _ _ (c .before .before .before .before .before .before .pre .0) (c .before .before .before .before .before .loop .i + 1) (omega arith) (omega arith)))) (c .before .before .before .before .loop-test .taken)
+returns-2 c =
+    faulty-first _ _ _ (c .before .before .before .before .before .loop .inv .1)
+    (no-name-long _
+    (omega (
+      arith,
+      field-size _ _ _ _ _ _ (c .before .before .before .before .before .before .pre .0)
+          (c .before .before .before .before .before .loop .i + 1) (omega arith) (omega arith),
+    ))) (c .before .before .before .before .loop-test .taken)
 
 loop-less : tie.Need-loop-less Inv-loop μ-loop
 loop-less c = omega arith
 
 loop-again : tie.Need-loop-again Inv-loop μ-loop
-loop-again c = (omega arith, faulty-on _ _ (c .before .before .before .before .before .loop .inv .1) (a-name _ (λ e. c .before .if1 .left (omega (arith, field-size _ _ _ _ _ _ (c .before .before .before .before .before .before .pre .0) (c .before .before .before .before .before .loop .i + 1) (omega arith) (omega arith)))) (omega (arith, field-size _ _ _ _ _ _ (c .before .before .before .before .before .before .pre .0) (c .before .before .before .before .before .loop .i + 1) (omega arith) (omega arith)))))
+loop-again c = (
+  omega arith,
+  faulty-on _ _ (c .before .before .before .before .before .loop .inv .1)
+      (a-name _
+      (λ e.
+      c .before .if1 .left
+      (omega (
+        arith,
+        field-size _ _ _ _ _ _ (c .before .before .before .before .before .before .pre .0)
+            (c .before .before .before .before .before .loop .i + 1) (omega arith) (omega arith),
+      )))
+      (omega (
+        arith,
+        field-size _ _ _ _ _ _ (c .before .before .before .before .before .before .pre .0)
+            (c .before .before .before .before .before .loop .i + 1) (omega arith) (omega arith),
+      ))),
+)
 
 returns-3 : tie.Need-returns-3 Inv-loop μ-loop
 returns-3 c = faulty-none _ _ _ (c .before .loop .inv .0) (omega arith) (c .before .loop .inv .1)

@@ -8,7 +8,8 @@ use lib.ListN.{length}
 use Rattle.text.proofs.Going.{Going, going-starts, going-on, going-stop, going-end, told-fields}
 
 abbrev Inv-loop : tie.InvT-loop
-Inv-loop text places₀ slots₀ a counts₀ at₀ number₀ places slots counts at number = Going text a places slots counts at number
+Inv-loop text places₀ slots₀ a counts₀ at₀ number₀ places slots counts at number =
+    Going text a places slots counts at number
 
 abbrev μ-loop : tie.MeasureT-loop
 μ-loop text places₀ slots₀ a counts₀ at₀ number₀ places slots counts at number = length text - at
@@ -20,22 +21,55 @@ fields-at-requires : tie.Need-fields-at-requires Inv-loop μ-loop
 fields-at-requires c κs = search needs
 
 line-requires : tie.Need-line-requires Inv-loop μ-loop
-line-requires c κs = (c .before .before .before .before .loop .inv .fit, (told-fields _ _ _ (c .before .before .before .before .before .before .pre .0) (c .before .before .before .loop-test .taken) (c .before .before .fields-at .ensures), omega (arith, c .before .before .before .before .loop .inv .low, c .before .before .before .before .before .before .pre .0 .short)))
+line-requires c κs = (
+  c .before .before .before .before .loop .inv .fit,
+  (
+    told-fields _ _ _ (c .before .before .before .before .before .before .pre .0)
+        (c .before .before .before .loop-test .taken) (c .before .before .fields-at .ensures),
+    omega (
+      arith,
+      c .before .before .before .before .loop .inv .low,
+      c .before .before .before .before .before .before .pre .0 .short,
+    ),
+  ),
+)
 
 returns : tie.Need-returns Inv-loop μ-loop
-returns c = going-stop _ _ _ _ _ _ _ (c .before .before .before .before .before .before .before .loop .inv) _ (told-fields _ _ _ (c .before .before .before .before .before .before .before .before .before .pre .0) (c .before .before .before .before .before .before .loop-test .taken) (c .before .before .before .before .before .fields-at .ensures)) _ _ _ (c .before .before .line .ensures) (c .if1 .taken)
+returns c =
+    going-stop _ _ _ _ _ _ _ (c .before .before .before .before .before .before .before .loop .inv) _
+    (told-fields _ _ _ (c .before .before .before .before .before .before .before .before .before .pre .0)
+    (c .before .before .before .before .before .before .loop-test .taken)
+    (c .before .before .before .before .before .fields-at .ensures)) _ _ _ (c .before .before .line .ensures)
+    (c .if1 .taken)
 
 wide-requires : tie.Need-wide-requires Inv-loop μ-loop
 wide-requires c κs = search needs
 
 add-number : tie.Need-add-number Inv-loop μ-loop
-add-number c = omega (arith, c .before .before .before .before .before .before .before .before .loop .inv .low, c .before .before .before .before .before .before .before .before .before .before .pre .0 .short)
+add-number c =
+    omega (
+      arith,
+      c .before .before .before .before .before .before .before .before .loop .inv .low,
+      c .before .before .before .before .before .before .before .before .before .before .pre .0 .short,
+    )
 
 loop-less : tie.Need-loop-less Inv-loop μ-loop
-loop-less c = omega (arith, c .wide .ensures, (told-fields _ _ _ (c .before .before .before .before .before .before .before .before .before .before .pre .0) (c .before .before .before .before .before .before .before .loop-test .taken) (c .before .before .before .before .before .before .fields-at .ensures)) .further, (told-fields _ _ _ (c .before .before .before .before .before .before .before .before .before .before .pre .0) (c .before .before .before .before .before .before .before .loop-test .taken) (c .before .before .before .before .before .before .fields-at .ensures)) .inside)
+loop-less c =
+    omega (
+      arith,
+      c .wide .ensures,
+      (told-fields _ _ _ (c .before .before .before .before .before .before .before .before .before .before .pre .0) (c .before .before .before .before .before .before .before .loop-test .taken) (c .before .before .before .before .before .before .fields-at .ensures)) .further,
+      (told-fields _ _ _ (c .before .before .before .before .before .before .before .before .before .before .pre .0) (c .before .before .before .before .before .before .before .loop-test .taken) (c .before .before .before .before .before .before .fields-at .ensures)) .inside,
+    )
 
 loop-again : tie.Need-loop-again Inv-loop μ-loop
-loop-again c = going-on _ _ _ _ _ _ _ (c .before .before .before .before .before .before .before .before .loop .inv) _ (told-fields _ _ _ (c .before .before .before .before .before .before .before .before .before .before .pre .0) (c .before .before .before .before .before .before .before .loop-test .taken) (c .before .before .before .before .before .before .fields-at .ensures)) _ _ _ (c .before .before .before .line .ensures) _ (c .before .if1 .left) (c .wide .ensures)
+loop-again c =
+    going-on _ _ _ _ _ _ _ (c .before .before .before .before .before .before .before .before .loop .inv) _
+    (told-fields _ _ _
+    (c .before .before .before .before .before .before .before .before .before .before .pre .0)
+    (c .before .before .before .before .before .before .before .loop-test .taken)
+    (c .before .before .before .before .before .before .fields-at .ensures)) _ _ _
+    (c .before .before .before .line .ensures) _ (c .before .if1 .left) (c .wide .ensures)
 
 returns-2 : tie.Need-returns-2 Inv-loop μ-loop
 returns-2 c = going-end _ _ _ _ _ _ _ (c .before .loop .inv) (c .loop-test .left)

@@ -24,10 +24,17 @@ line-ends-requires : tie.Need-line-ends-requires
 line-ends-requires c κs = search needs
 
 add-t9 : tie.Need-add-t9
-add-t9 c = omega (arith, c .line-ends .ensures, times-le lf (c .before .before .before .before .before .before .args .text .now))
+add-t9 c =
+    omega (
+      arith,
+      c .line-ends .ensures,
+      times-le lf (c .before .before .before .before .before .before .args .text .now),
+    )
 
 returns-3 : tie.Need-returns-3
-returns-3 c = check-21 _ (c .before .before .before .before .if1 .left) (c .before .before .before .if2 .left) (c .before .if3 .taken) _ (c .line-ends .ensures)
+returns-3 c =
+    check-21 _ (c .before .before .before .before .if1 .left) (c .before .before .before .if2 .left)
+    (c .before .if3 .taken) _ (c .line-ends .ensures)
 
 first-bad-requires : tie.Need-first-bad-requires
 first-bad-requires c κs = search needs
@@ -39,13 +46,26 @@ line-ends-requires-2 : tie.Need-line-ends-requires-2
 line-ends-requires-2 c κs = search needs
 
 add-t13 : tie.Need-add-t13
-add-t13 c = omega (arith, c .line-ends2 .ensures, times-part lf (c .before .before .before .first-bad .result) (c .before .before .before .before .before .before .before .before .before .args .text .now) (omega arith))
+add-t13 c =
+    omega (
+      arith,
+      c .line-ends2 .ensures,
+      times-part lf (c .before .before .before .first-bad .result)
+          (c .before .before .before .before .before .before .before .before .before .args .text .now) (omega arith),
+    )
 
 returns-4 : tie.Need-returns-4
-returns-4 c = check-22 _ (c .before .before .before .before .before .before .before .if1 .left) (c .before .before .before .before .before .before .if2 .left) (c .before .before .before .before .if3 .left) _ (c .before .before .before .first-bad .ensures) (c .before .before .if4 .taken) _ (c .line-ends2 .ensures)
+returns-4 c =
+    check-22 _ (c .before .before .before .before .before .before .before .if1 .left)
+    (c .before .before .before .before .before .before .if2 .left)
+    (c .before .before .before .before .if3 .left) _ (c .before .before .before .first-bad .ensures)
+    (c .before .before .if4 .taken) _ (c .line-ends2 .ensures)
 
 returns-5 : tie.Need-returns-5
-returns-5 c = check-passed _ (c .before .before .before .before .before .if1 .left) (c .before .before .before .before .if2 .left) (c .before .before .if3 .left) _ (c .before .first-bad .ensures) (c .if4 .left)
+returns-5 c =
+    check-passed _ (c .before .before .before .before .before .if1 .left)
+    (c .before .before .before .before .if2 .left) (c .before .before .if3 .left) _
+    (c .before .first-bad .ensures) (c .if4 .left)
 
 pub check-spec : {M : Type 1} → statement M
 check-spec =
