@@ -130,6 +130,6 @@ unfolding every some leastFrom units outputs inputs feeds outputOwners inputOwne
     ordering allowed same grown parted rows word place times lineOf firstBad blank unitNamed outputNamed
     inputNamed feedOf loose isUnit isOutput isInput isFeed sourceOf addUnit addOutput addInput addFeed
     joined addJoin refused refuse taken isName faulty kindOf unitLine outLine inLine feedLine joinLine
-    line stopped pairs packed written ending linesFrom version lineByLine reading linesOf decimal spell
+    line stopped pairs packed written ending linesFrom version lineByLine reading linesOf spell decimal
     printed entry entries callsText refusalText outcomeText listing
 examples = (refl, refl, refl, refl)
