@@ -10,7 +10,7 @@ use Rattle.table.specs.Packed.{part}
 use Rattle.table.specs.declared.Answer.{Answer}
 use Rattle.table.specs.Outcome.{Outcome, outcome}
 use Rattle.grammar.specs.Reading.{Reading, reading}
-use Rattle.listing.specs.Lengths.{reading-fair}
+use Rattle.reading.specs.Reads.{read-long}
 use Rattle.text.specs.declared.Answer.{Answer as Told}
 use Rattle.sorter.specs.Ordering.{ordering}
 use Rattle.sorter.specs.Answers.{ordering-long}
@@ -38,7 +38,7 @@ module _ (t before after : List ℕ) (a : Told)
     table-is =
         let g = reading 644 t in
         rw (r .1, place-is)
-        (take-at (g .bytes) _ (g .place) (sym (reading-fair 644 t (sym number-is ∙ z))))
+        (take-at (g .bytes) _ (g .place) (sym (read-long 644 t (sym number-is ∙ z))))
 
     -- the front of the order buffer is the calls that were given
     calls-are :

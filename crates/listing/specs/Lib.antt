@@ -1,5 +1,4 @@
 -- The text that the lister prints.
-pub mod Lengths
 pub mod Listing
 pub mod Determined
 pub mod Examples

@@ -17,7 +17,7 @@ use Rattle.printing.specs.Printed.{printed}
 unfoldable pub refusalText : ℕ → ℕ → List ℕ
 refusalText n k = printed (ascii "refused" ∷ decimal n ∷ decimal k ∷ [])
 
--- with the lines that declare units, outputs and inputs
+-- with the lines that declare units, outputs and inputs: field 1 names the unit, field 2 the port
 module _ (units outputs inputs : List (List (List ℕ))) where
   -- "place, `step`/`get`/`set`, unit name, port name or `-` for a step"; nothing for what is no call
   unfoldable pub entry : ℕ → Call → List ℕ

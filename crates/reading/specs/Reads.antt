@@ -191,3 +191,8 @@ text-read room t = go (reading room t) (text-reads room t)
     go r (reads-22 l b) e = absurd (omega arith)
     go r (reads-23 l) e = absurd (omega arith)
     go r (reads-lines s first fs l p o c) e = come first fs s p o c e
+
+-- the place is the packed length
+pub read-long : (room : ℕ) (t : List ℕ) → reading room t .number ≡ 0
+    → reading room t .place ≡ length (reading room t .bytes)
+read-long room t e = rw (text-read room t e .result)
