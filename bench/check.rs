@@ -8,41 +8,20 @@ mod support;
 #[allow(dead_code)]
 mod support_of_tests;
 
+use reference::table::Table;
 use support::count::Counter;
 use support::exports::{oorlichday_check, plain_check, Check};
-use support::families::{families, great};
-use support::hunt::{changed, hunt, STARTS};
-use support::rows::{heading, limit, rounds, row};
-use support_of_tests::random::Random;
-
-const LIMIT: u64 = 60_000;
-
-fn cost(counter: &Counter, check: Check, table: &[u8]) -> u64 {
-    counter.count(|| unsafe { check(table.as_ptr(), table.len()) }).0
-}
+use support::families::{great, tables};
+use support::hunt::changed;
+use support::measured::measured;
 
 fn main() {
     let counter = Counter::new();
-    let mut random = Random::new(81);
-    let mut worst = |rounds: usize, check: Check| {
-        hunt(&mut random, rounds, STARTS, great, changed, |table| {
-            cost(&counter, check, &table.packed())
-        })
+    let cost = |check: Check, table: &Table| {
+        let table = table.packed();
+        counter.count(|| unsafe { check(table.as_ptr(), table.len()) }).0
     };
-    if let Some(rounds) = rounds() {
-        limit("check", worst(rounds, oorlichday_check).0, LIMIT);
-    }
-    heading("check");
-    for member in families() {
-        let table = member.table.packed();
-        let (proved, plain) =
-            (cost(&counter, oorlichday_check, &table), cost(&counter, plain_check, &table));
-        row(member.family, &format!("N = {}", member.table.calls()), proved, plain);
-    }
-    row(
-        &format!("worst found, limit {}", LIMIT),
-        "each its own",
-        worst(4_000, oorlichday_check).0,
-        worst(4_000, plain_check).0,
-    );
+    let costs: [&dyn Fn(&Table) -> u64; 2] =
+        [&|table| cost(oorlichday_check, table), &|table| cost(plain_check, table)];
+    measured("check", 60_000, tables(), great, changed, costs);
 }

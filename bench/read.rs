@@ -11,9 +11,10 @@ mod support_of_tests;
 use reference::table::Table;
 use support::count::Counter;
 use support::exports::{oorlichday_read, plain_read, Read};
-use support::families::families;
+use support::families::texts;
 use support::hunt::hunt;
-use support::rows::{heading, limit, rounds, row};
+use support::measured::rows;
+use support::rows::{limit, rounds, row};
 use support_of_tests::random::Random;
 use support_of_tests::tables::{any, GREATEST};
 use support_of_tests::texts::{bytes, mixed, plain as plain_text, Names};
@@ -82,22 +83,17 @@ fn worst_names(counter: &Counter, read: Read) -> u64 {
 
 fn main() {
     let counter = Counter::new();
+    let most = LIMIT_OF_A_BYTE * GREATEST_TEXT as u64 - 1;
     if let Some(rounds) = rounds() {
-        let greatest = worst(&counter, rounds / 4, oorlichday_read);
-        limit("read, the greatest text", greatest, LIMIT_OF_A_BYTE * GREATEST_TEXT as u64 - 1);
+        let dearest = worst(&counter, rounds / 4, oorlichday_read);
+        limit("read", dearest.max(worst_names(&counter, oorlichday_read)), most);
     }
-    heading("read");
-    for member in families() {
-        let names = Names::random(&mut Random::new(85), &member.table);
-        let text = bytes(&plain_text(&member.table, &names));
-        let (proved, plain) =
-            (cost(&counter, oorlichday_read, &text), cost(&counter, plain_read, &text));
-        row(member.family, &format!("{} bytes", text.len()), proved, plain);
-    }
-    let size = format!("{} bytes", GREATEST_TEXT);
+    let read = |read: Read, text: &Vec<u8>| cost(&counter, read, text);
+    rows("read", texts(85), [&|text| read(oorlichday_read, text), &|text| read(plain_read, text)]);
+    let (size, what) = (format!("{} bytes", GREATEST_TEXT), "greatest text");
     let (proved, plain) = (worst(&counter, 400, oorlichday_read), worst(&counter, 400, plain_read));
-    row("greatest text, worst found, limit 2295199", &size, proved, plain);
+    row("read", &format!("{}, worst found, limit {}", what, most), &size, proved, plain);
     let (proved, plain) =
         (worst_names(&counter, oorlichday_read), worst_names(&counter, plain_read));
-    row("greatest text, names hunted for too", &size, proved, plain);
+    row("read", &format!("{}, names hunted for too", what), &size, proved, plain);
 }

@@ -11,21 +11,14 @@ mod support_of_tests;
 use reference::table::Table;
 use support::count::Counter;
 use support::exports::{oorlichday_verdict, plain_verdict, Verdict};
-use support::families::{families, first_order, great};
-use support::hunt::{changed, hunt, STARTS};
-use support::rows::{heading, limit, rounds, row};
+use support::families::{first_order, great, tables};
+use support::hunt::changed;
+use support::measured::measured;
 use support_of_tests::random::Random;
 use support_of_tests::tables::{acyclic, GREATEST};
 
-const LIMIT: u64 = 170_000;
-
 /// A table and an order to be judged by it.
 type Case = (Table, Vec<u8>);
-
-fn cost(counter: &Counter, verdict: Verdict, case: &Case) -> u64 {
-    let (table, calls) = (case.0.packed(), &case.1);
-    counter.count(|| unsafe { verdict(table.as_ptr(), table.len(), calls.as_ptr(), calls.len()) }).0
-}
 
 fn begin(random: &mut Random) -> Case {
     let table = great(random);
@@ -49,28 +42,20 @@ fn change(random: &mut Random, case: &Case) -> Case {
     (case.0.clone(), calls)
 }
 
+/// The families' tables, each with its first order.
+fn cases() -> impl Iterator<Item = (&'static str, String, Case)> {
+    let case = |table: Table| first_order(&table).map(|calls| (table, calls));
+    tables().into_iter().filter_map(move |(family, size, table)| Some((family, size, case(table)?)))
+}
+
 fn main() {
     let counter = Counter::new();
-    let mut random = Random::new(83);
-    let mut worst = |rounds: usize, verdict: Verdict| {
-        hunt(&mut random, rounds, STARTS, begin, change, |case| cost(&counter, verdict, case))
+    let cost = |verdict: Verdict, case: &Case| {
+        let (table, calls) = (case.0.packed(), &case.1);
+        let call = || unsafe { verdict(table.as_ptr(), table.len(), calls.as_ptr(), calls.len()) };
+        counter.count(call).0
     };
-    if let Some(rounds) = rounds() {
-        limit("verdict", worst(rounds, oorlichday_verdict).0, LIMIT);
-    }
-    heading("verdict on the first order");
-    for member in families() {
-        let size = format!("N = {}", member.table.calls());
-        if let Some(calls) = first_order(&member.table) {
-            let case = (member.table, calls);
-            let proved = cost(&counter, oorlichday_verdict, &case);
-            row(member.family, &size, proved, cost(&counter, plain_verdict, &case));
-        }
-    }
-    row(
-        &format!("worst found, limit {}", LIMIT),
-        "each its own",
-        worst(4_000, oorlichday_verdict).0,
-        worst(4_000, plain_verdict).0,
-    );
+    let costs: [&dyn Fn(&Case) -> u64; 2] =
+        [&|case| cost(oorlichday_verdict, case), &|case| cost(plain_verdict, case)];
+    measured("verdict", 170_000, cases(), begin, change, costs);
 }

@@ -2,7 +2,7 @@
 import sys
 
 WIDTH, HEIGHT, LEFT, GAP = 900, 260, 60, 50
-LOW, HIGH = 3500, 7500
+LOW, HIGH, MINUTES = 3500, 7500, 1440
 
 
 def panel(curves, first, last, top, title):
@@ -31,12 +31,14 @@ def panel(curves, first, last, top, title):
 def main():
     with open(sys.argv[1], encoding="utf-8") as lines:
         rows = [tuple(map(int, line.split()[1:])) for line in lines if line.startswith("curve ")]
+    if len(rows) != MINUTES:
+        sys.exit(f"{len(rows)} minutes and not a day")
     curves = [row[1] for row in rows], [row[2] for row in rows]
     whole = 2 * (HEIGHT + GAP) + 60
     picture = [f'<svg xmlns="http://www.w3.org/2000/svg" width="{WIDTH}" height="{whole}" '
                'font-family="sans-serif" font-size="12" stroke-width="1.6">',
                '<rect width="100%" height="100%" fill="white"/>']
-    picture += panel(curves, 0, 1440, 40, "Oxygen in mg/l over a day")
+    picture += panel(curves, 0, MINUTES, 40, "Oxygen in mg/l over a day")
     picture += panel(curves, 120, 200, HEIGHT + GAP + 50, "From two at night, when the pump rests")
     picture.append(f'<text x="{LEFT}" y="{whole - 12}" fill="#0a6">the right order</text>')
     picture.append(f'<text x="{LEFT + 120}" y="{whole - 12}" fill="#c33">'

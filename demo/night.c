@@ -41,7 +41,7 @@ static uint32_t judge(const char *whose, const uint8_t *calls)
     else
         printf("%s is refused: number %u at place %u, \"%s\": %s.\n", whose, number, place,
                call_names[calls[place] % CALLS], in_words(number));
-    return number;
+    return answer;
 }
 
 /* Version one: read all, set all, step all. */
@@ -71,7 +71,7 @@ static int minutes_behind(void)
 
 int main(void)
 {
-    /* An installer's order: the oxygen is read before the water has moved. */
+    /* An installer's order: the level of oxygen is read before the water has moved. */
     static const uint8_t installers[CALLS] = { 0, 6, 17, 1, 7, 2, 14, 8, 12, 13, 16,
                                                4, 10, 20, 3, 9, 19, 18, 5, 11, 15 };
     /* Another that keeps the rules, by hand. */
@@ -79,7 +79,7 @@ int main(void)
                                             10, 20, 0, 6, 17, 5, 12, 13, 11, 15 };
     static uint8_t order[OORLICHDAY_ORDER_MAX], fixed[CALLS];
     static struct twin right, other, old;
-    int alike = 1;
+    int alike = 0;
     int32_t widest = 0;
 
     expect(oorlichday_check(tank_table, sizeof tank_table) == CALLS, "the table is sound");
@@ -88,25 +88,27 @@ int main(void)
     for (unsigned place = 0; place < CALLS; place++)
         printf("%2u  %s\n", place, call_names[order[place] % CALLS]);
     version_one(fixed);
-    expect(judge("The order given", order) == 0, "the order given passes");
-    expect(judge("The order by hand", by_hand) == 0, "another order passes");
+    expect(judge("The order given", order) == CALLS, "the order given passes");
+    expect(judge("The order by hand", by_hand) == CALLS, "another order passes");
     expect(memcmp(order, by_hand, CALLS) != 0, "the two differ");
-    expect(judge("The installer's order", installers) == 15, "the installer's is refused");
-    expect(judge("Version one's order", fixed) == 15, "version one's is refused");
+    expect(judge("The installer's order", installers) == 256 * OORLICHDAY_NOT_STEPPED + 8,
+           "the installer's is refused");
+    expect(judge("Version one's order", fixed) == 256 * OORLICHDAY_NOT_STEPPED,
+           "version one's is refused");
 
     twin_start(&right), twin_start(&other), twin_start(&old);
     for (int minute = 0; minute < MINUTES; minute++) {
         twin_run(&right, order, CALLS);
         twin_run(&other, by_hand, CALLS);
         twin_run(&old, fixed, CALLS);
-        alike = alike && memcmp(&right, &other, sizeof right) == 0;
+        alike += memcmp(&right, &other, sizeof right) == 0;
         right_curve[minute] = right.oxygen;
         version_one_curve[minute] = old.oxygen;
         if (abs(right.oxygen - old.oxygen) > widest)
             widest = abs(right.oxygen - old.oxygen);
         printf("curve %d %d %d\n", minute, right.oxygen, old.oxygen);
     }
-    expect(alike, "both passed orders end alike at every step");
+    expect(alike == MINUTES, "both passed orders end alike at every step");
     printf("Version one's curve runs %d minutes behind, at most %d micrograms a litre off.\n",
            minutes_behind(), widest);
     expect(minutes_behind() > 0, "version one's curve runs behind");

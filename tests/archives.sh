@@ -6,7 +6,7 @@ KIND=${1:-proved}
 BUILD=$ROOT/target/tests/$KIND
 mkdir -p "$BUILD"
 
-# The lines of tests/exports.txt that are switched on: archive, name.
+# The lines of tests/exports.txt: archive, name.
 listed() {
     grep -v '^#' "$ROOT/tests/exports.txt"
 }

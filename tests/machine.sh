@@ -1,5 +1,5 @@
 # Which machine this is, and what it must have: sourced by all that build or run x86-64 code.
-# Sets ROOT, CC, NM, AR, OBJDUMP, OBJCOPY, QEMU, RUSTC, RUN; `need PACKAGE...` installs.
+# Sets ROOT, CC, NM, AR, SIZE, OBJDUMP, OBJCOPY, QEMU, RUSTC, RUN; `need PACKAGE...` installs.
 
 ROOT=$(cd "$(dirname "${BASH_SOURCE[0]}")/.." && pwd)
 
@@ -18,7 +18,7 @@ need() {
 }
 
 # The compiler and the tools carry the target's name on both kinds of machine.
-CC=x86_64-linux-gnu-gcc NM=x86_64-linux-gnu-nm AR=x86_64-linux-gnu-ar
+CC=x86_64-linux-gnu-gcc NM=x86_64-linux-gnu-nm AR=x86_64-linux-gnu-ar SIZE=x86_64-linux-gnu-size
 OBJDUMP=x86_64-linux-gnu-objdump OBJCOPY=x86_64-linux-gnu-objcopy
 QEMU=qemu-x86_64
 

@@ -1,5 +1,6 @@
 /* A plugin for qemu-x86_64: each call of count_mark writes the instructions run since the last. */
 #include <stdint.h>
+#include <stdlib.h>
 #include <string.h>
 #include <unistd.h>
 
@@ -15,17 +16,33 @@ extern size_t qemu_plugin_tb_n_insns(const struct qemu_plugin_tb *block);
 extern struct qemu_plugin_insn *qemu_plugin_tb_get_insn(const struct qemu_plugin_tb *block,
                                                         size_t index);
 extern const char *qemu_plugin_insn_symbol(const struct qemu_plugin_insn *instruction);
+extern uint64_t qemu_plugin_insn_vaddr(const struct qemu_plugin_insn *instruction);
 
 __attribute__((visibility("default"))) int qemu_plugin_version = 1;
 
 enum { COUNTS = 200 }; /* the file number that the counted program reads its counts from */
 
-static uint64_t count;
+enum { PAGE = 4096, LONGEST = 15 }; /* bytes of a page, and of the longest instruction */
 
-static void block_runs(unsigned cpu, void *instructions)
+/* A block's first and last instruction, and how many it was said to have. */
+struct block {
+    uint64_t first, last, count;
+};
+
+static uint64_t count;
+static const struct block *before;
+
+/* An instruction that crosses a page is counted in the block that it would end, which leaves it out,
+   and again as the first of the next block. */
+static void block_runs(unsigned cpu, void *data)
 {
+    const struct block *block = data;
     (void)cpu;
-    count += (uintptr_t)instructions;
+    if (before != NULL && before->count > 1 && before->last == block->first &&
+        block->first % PAGE + LONGEST > PAGE)
+        count--;
+    count += block->count;
+    before = block;
 }
 
 static void mark_runs(unsigned cpu, void *data)
@@ -34,17 +51,24 @@ static void mark_runs(unsigned cpu, void *data)
     if (write(COUNTS, &count, sizeof count) != sizeof count)
         _exit(3);
     count = 0;
+    before = NULL;
 }
 
 static void translated(uint64_t id, struct qemu_plugin_tb *block)
 {
-    const char *symbol = qemu_plugin_insn_symbol(qemu_plugin_tb_get_insn(block, 0));
-    void *instructions = (void *)qemu_plugin_tb_n_insns(block);
+    const struct qemu_plugin_insn *first = qemu_plugin_tb_get_insn(block, 0);
+    const char *symbol = qemu_plugin_insn_symbol(first);
+    struct block *noted = malloc(sizeof *noted);
     (void)id;
+    if (noted == NULL)
+        _exit(3);
+    noted->count = qemu_plugin_tb_n_insns(block);
+    noted->first = qemu_plugin_insn_vaddr(first);
+    noted->last = qemu_plugin_insn_vaddr(qemu_plugin_tb_get_insn(block, noted->count - 1));
     if (symbol != NULL && strcmp(symbol, "count_mark") == 0)
         qemu_plugin_register_vcpu_tb_exec_cb(block, mark_runs, 0, NULL);
     else
-        qemu_plugin_register_vcpu_tb_exec_cb(block, block_runs, 0, instructions);
+        qemu_plugin_register_vcpu_tb_exec_cb(block, block_runs, 0, noted);
 }
 
 __attribute__((visibility("default")))

@@ -10,7 +10,7 @@ try:
 except ImportError:
     networkx = None
 
-PROCESSES, CALLS = 60, 2000
+PROCESSES, CALLS, ROUNDS = 60, 20, 100
 
 
 def whole(command):
@@ -29,7 +29,7 @@ def in_process(pairs):
     graph.add_edges_from(pairs)
     graph.remove_edges_from(list(networkx.selfloop_edges(graph)))
     best = float("inf")
-    for _ in range(20):
+    for _ in range(ROUNDS):
         start = time.perf_counter()
         order = list(networkx.lexicographical_topological_sort(graph))
         best = min(best, time.perf_counter() - start)

@@ -38,16 +38,18 @@ static unsigned unit_line(struct names *n, const struct field *f)
     return 0;
 }
 
-static unsigned out_line(struct names *n, const struct field *f, unsigned line)
+/* One more port of the unit named by f[1], under the name f[2]. */
+static unsigned port_line(const struct names *n, struct port *ports, unsigned *count,
+                          const struct field *f, unsigned line)
 {
     int unit = find_unit(n, f[1]);
     if (unit < 0)
         return 27;
-    if (find_port(n->output, n->outputs, unit, f[2]) >= 0)
+    if (find_port(ports, *count, unit, f[2]) >= 0)
         return 26;
-    if (n->outputs == 96)
+    if (*count == 96)
         return 29;
-    n->output[n->outputs++] = (struct port){ f[2], (unsigned)unit, line };
+    ports[(*count)++] = (struct port){ f[2], (unsigned)unit, line };
     return 0;
 }
 
@@ -56,16 +58,11 @@ static unsigned in_line(struct names *n, const struct field *f, unsigned line)
     int reactive = is_word(f[3], "reactive");
     if (!reactive && !is_word(f[3], "delayed"))
         return 28;
-    int unit = find_unit(n, f[1]);
-    if (unit < 0)
-        return 27;
-    if (find_port(n->input, n->inputs, unit, f[2]) >= 0)
-        return 26;
-    if (n->inputs == 96)
-        return 29;
-    n->kind[n->inputs] = (uint8_t)reactive;
-    n->joined[n->inputs] = 0;
-    n->input[n->inputs++] = (struct port){ f[2], (unsigned)unit, line };
+    unsigned input = n->inputs, number = port_line(n, n->input, &n->inputs, f, line);
+    if (number != 0)
+        return number;
+    n->kind[input] = (uint8_t)reactive;
+    n->joined[input] = 0;
     return 0;
 }
 
@@ -114,7 +111,7 @@ unsigned plain_line(struct names *n, const struct field *f, unsigned fields, uns
     if (is_word(f[0], "unit") && fields == 2)
         return names_fit(f, 1) ? unit_line(n, f) : 25;
     if (is_word(f[0], "out") && fields == 3)
-        return names_fit(f, 2) ? out_line(n, f, line) : 25;
+        return names_fit(f, 2) ? port_line(n, n->output, &n->outputs, f, line) : 25;
     if (is_word(f[0], "in") && fields == 4)
         return names_fit(f, 2) ? in_line(n, f, line) : 25;
     if (is_word(f[0], "feed") && fields == 4)

@@ -4,6 +4,7 @@ use crate::reference::order::order;
 use crate::reference::table::Table;
 use crate::support_of_tests::random::Random;
 use crate::support_of_tests::tables::{acyclic, any, chain, relabelled, ring, Counts, GREATEST};
+use crate::support_of_tests::texts::{bytes, plain, Names};
 
 pub struct Member {
     pub family: &'static str,
@@ -53,6 +54,23 @@ pub fn families() -> Vec<Member> {
         members.push(Member { family: "random", table: any(&mut random, in_proportion(units)) });
     }
     members
+}
+
+/// The families' tables as inputs of a bench.
+pub fn tables() -> Vec<(&'static str, String, Table)> {
+    let input =
+        |member: Member| (member.family, format!("N = {}", member.table.calls()), member.table);
+    families().into_iter().map(input).collect()
+}
+
+/// The families' tables as texts, under random names.
+pub fn texts(seed: u64) -> Vec<(&'static str, String, Vec<u8>)> {
+    let input = |member: Member| {
+        let names = Names::random(&mut Random::new(seed), &member.table);
+        let text = bytes(&plain(&member.table, &names));
+        (member.family, format!("{} bytes", text.len()), text)
+    };
+    families().into_iter().map(input).collect()
 }
 
 /// Great tables of every make, to begin a hunt with.

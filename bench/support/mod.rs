@@ -5,4 +5,5 @@ pub mod count;
 pub mod exports;
 pub mod families;
 pub mod hunt;
+pub mod measured;
 pub mod rows;

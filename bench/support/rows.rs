@@ -1,14 +1,8 @@
-//! The lines of a bench: one for each input, proved beside plain.
+//! The rows of the benches' one table: a function, its input, proved beside plain.
 
-pub fn heading(job: &str) {
-    println!("\n### {}\n", job);
-    println!("| input | size | proved | plain C | proved / plain |");
-    println!("|---|---:|---:|---:|---:|");
-}
-
-pub fn row(input: &str, size: &str, proved: u64, plain: u64) {
+pub fn row(function: &str, input: &str, size: &str, proved: u64, plain: u64) {
     let ratio = proved as f64 / plain as f64;
-    println!("| {} | {} | {} | {} | {:.2} |", input, size, proved, plain, ratio);
+    println!("| {} | {} | {} | {} | {} | {:.2} |", function, input, size, proved, plain, ratio);
 }
 
 /// One limit: printed, and counted as passed or failed.

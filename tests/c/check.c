@@ -48,16 +48,14 @@ static void lengths(int side)
     EXPECT(whole == OORLICHDAY_TABLE_MAX);
     for (size_t length = 0; length <= sizeof table; length++)
         EXPECT(check(table, length, side) == (length == whole ? 224u : 256u));
-    EXPECT(oorlichday_check(nowhere, 0) == 256);
+    EXPECT(oorlichday_check(nowhere, 0) == 256 && oorlichday_check(NULL, 0) == 256);
 }
 
 static void any_bytes(int side)
 {
     uint8_t table[700];
     for (int round = 0; round < 2000; round++) {
-        size_t length = some_number() % sizeof table;
-        for (size_t at = 0; at < length; at++)
-            table[at] = (uint8_t)(some_number() % (round % 2 ? 256 : 8));
+        size_t length = some_bytes(table, sizeof table, round % 2 ? 256 : 8);
         uint32_t answer = check(table, length, side);
         EXPECT(answer < 256 * 8 && (answer < 225 || answer % 256 == 0));
     }

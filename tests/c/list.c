@@ -1,6 +1,6 @@
-/* The listing from C: one of each kind of answer, every buffer length, canaries. */
-#include "desk.h"
-#include "test.h"
+/* The listing from C: one of each kind of answer, every buffer length, the greatest text, any bytes. */
+#include "../../include/oorlichday_desk.h"
+#include "texts.h"
 
 static uint8_t *first, *second;
 
@@ -37,8 +37,68 @@ static void cycles(int side)
 static void refusals(int side)
 {
     EXPECT(oorlichday_list(nowhere, 0, nowhere, 0).number == 34);
+    EXPECT(oorlichday_list(NULL, 0, NULL, 0).number == 34);
     lists("", "refused\t20\t0\n", side);
     lists("cosim\t1\nunit\ta\nunit\ta\n", "refused\t26\t3\n", side);
+}
+
+/* How many lines there are. */
+static size_t lines(const uint8_t *text, size_t length)
+{
+    size_t count = 0;
+    for (size_t at = 0; at < length; at++)
+        count += text[at] == '\n';
+    return count;
+}
+
+/* All 224 calls under the longest names, in buffers about the listing's length. */
+static void great(int side)
+{
+    static char text[OORLICHDAY_TEXT_MAX];
+    uint8_t table[644];
+    size_t length = greatest_text(text, table, 0);
+    for (size_t room = OORLICHDAY_LISTING_MAX - 3; room < OORLICHDAY_LISTING_MAX + 3; room++) {
+        uint8_t *lent = lend_copy(first, text, length, side);
+        uint8_t *out = lend(second, room, !side);
+        struct oorlichday_reading answer = oorlichday_list(lent, length, out, room);
+        int fits = room >= OORLICHDAY_LISTING_MAX;
+        size_t written = fits ? OORLICHDAY_LISTING_MAX : 0;
+        EXPECT(answer.number == (fits ? 0 : 34) && answer.place == written);
+        EXPECT(memcmp(lent, text, length) == 0 && canaries(first, lent, length));
+        EXPECT(canaries(second, out, written) && lines(out, written) == (fits ? 225 : 0));
+        EXPECT(!fits || memcmp(out, "order\t224\n0\tstep\ta_unit_number_00\t-\n", 36) == 0);
+    }
+    length = greatest_text(text, table, 1);
+    uint8_t *out = lend(second, 10000, side);
+    struct oorlichday_reading answer =
+        oorlichday_list(lend_copy(first, text, length, side), length, out, 10000);
+    EXPECT(answer.number == 0 && canaries(second, out, answer.place));
+    EXPECT(memcmp(out, "cycle\t", 6) == 0);
+}
+
+/* Is it the one line of a refusal, and nothing else? */
+static int is_refusal(const uint8_t *out, size_t length)
+{
+    char said[21] = "", again[40];
+    unsigned number, line;
+    memcpy(said, out, length < 20 ? length : 20);
+    return sscanf(said, "refused\t%u\t%u", &number, &line) == 2 && number >= 20 && number < 34 &&
+           (size_t)sprintf(again, "refused\t%u\t%u\n", number, line) == length &&
+           strcmp(said, again) == 0;
+}
+
+static void any_bytes(int side)
+{
+    uint8_t bytes[700];
+    for (int round = 0; round < 1000; round++) {
+        size_t length = some_bytes(bytes, sizeof bytes, 256);
+        uint8_t *lent = lend_copy(first, bytes, length, side);
+        uint8_t *out = lend(second, 20, !side);
+        struct oorlichday_reading answer = oorlichday_list(lent, length, out, 20);
+        EXPECT(answer.number == 0 && canaries(second, out, answer.place));
+        EXPECT(is_refusal(out, answer.place));
+        EXPECT(memcmp(lent, bytes, length) == 0 && canaries(first, lent, length));
+    }
 }
 
 int main(void)
@@ -47,5 +107,7 @@ int main(void)
     run("an order in buffers of every length", orders);
     run("a cycle in buffers of every length", cycles);
     run("refusals in buffers of every length", refusals);
+    run("the greatest texts", great);
+    run("any bytes", any_bytes);
     return report();
 }

@@ -59,7 +59,9 @@ static void small(int side)
     static const uint8_t a[] = { 2, 2, 2, 0, 0, 1, 0, 1, 0, 1, 1, 0 };
     static const uint8_t both_fed[] = { 2, 2, 2, 2, 0, 1, 0, 1, 0, 0, 1, 0, 0, 0, 1, 1 };
     EXPECT(oorlichday_order(nowhere, 0, nowhere, 0) == 256);
+    EXPECT(oorlichday_order(NULL, 0, NULL, 0) == 256);
     EXPECT(oorlichday_order(a, sizeof a, nowhere, 0) == 256 * 8);
+    EXPECT(oorlichday_order(a, sizeof a, NULL, 0) == 256 * 8);
     rooms(a, sizeof a, 6, (uint8_t[]){ 0, 2, 5, 1, 3, 4 }, 6, side);
     rooms(both_fed, sizeof both_fed, 256 * 9 + 4, (uint8_t[]){ 2, 5, 3, 4 }, 6, side);
 }
@@ -80,13 +82,12 @@ static void any_bytes(int side)
 {
     uint8_t table[700];
     for (int round = 0; round < 1000; round++) {
-        size_t length = some_number() % sizeof table;
-        for (size_t at = 0; at < length; at++)
-            table[at] = (uint8_t)(some_number() % (round % 2 ? 256 : 4));
+        size_t length = some_bytes(table, sizeof table, round % 2 ? 256 : 4);
         uint8_t *lent = lend_copy(first, table, length, side);
         uint8_t *out = lend(second, 224, side);
         uint32_t answer = oorlichday_order(lent, length, out, 224), number = answer / 256;
         EXPECT(number < 10 && number != 8 && canaries(second, out, number % 9 ? 0 : answer % 256));
+        EXPECT(memcmp(lent, table, length) == 0 && canaries(first, lent, length));
     }
 }
 

@@ -85,6 +85,15 @@ static inline uint32_t some_number(void)
     return (uint32_t)(state >> 16);
 }
 
+/* Bytes below the bound, fewer than `most` of them; answers how many. */
+static inline size_t some_bytes(uint8_t *bytes, size_t most, unsigned bound)
+{
+    size_t count = some_number() % most;
+    for (size_t at = 0; at < count; at++)
+        bytes[at] = (uint8_t)(some_number() % bound);
+    return count;
+}
+
 /* A table of the greatest counts, 644 bytes and 224 calls; acyclic if its inputs are delayed. */
 static inline size_t greatest(uint8_t *table, int reactive)
 {

@@ -43,7 +43,9 @@ static void examples(int side)
         { a, 0, 0, 1, 0, { 0 } },
     };
     EXPECT(oorlichday_verdict(nowhere, 0, nowhere, 0) == 256);
+    EXPECT(oorlichday_verdict(NULL, 0, NULL, 0) == 256);
     EXPECT(oorlichday_verdict(a, sizeof a, nowhere, 0) == 256 * 18);
+    EXPECT(oorlichday_verdict(a, sizeof a, NULL, 0) == 256 * 18);
     for (size_t k = 0; k < sizeof cases / sizeof cases[0]; k++)
         EXPECT(verdict(cases[k].table, cases[k].length, cases[k].calls, cases[k].count, side) ==
                256 * cases[k].number + cases[k].place);
@@ -67,30 +69,51 @@ static void great(int side)
         EXPECT(verdict(table, length, calls, longer, side) == 256 * 12 + 224);
 }
 
-/* The table and the order are the same bytes, or overlap. */
+/* The order begins with the table's last byte, is the table, or is part of it, and is judged. */
+static void shared(int side)
+{
+    static const uint8_t a[] = { 2, 2, 2, 0, 0, 1, 0, 1, 0, 1, 1, 0, 2, 5, 1, 3, 4 };
+    static const uint8_t one[] = { 1, 0, 0, 0 };
+    uint8_t *lent = lend_copy(first, a, sizeof a, side);
+    EXPECT(oorlichday_verdict(lent, 12, lent + 11, 6) == 6);
+    EXPECT(oorlichday_verdict(lent, 12, lent, 12) == 256 * 15);
+    EXPECT(oorlichday_verdict(lent, 12, lent + 12, 5) == 256 * 15);
+    lent = lend_copy(first, one, sizeof one, side);
+    EXPECT(oorlichday_verdict(lent, 4, lent + 3, 1) == 1);
+    EXPECT(oorlichday_verdict(lent, 4, lent + 2, 2) == 256 * 12 + 1);
+    EXPECT(oorlichday_verdict(lent, 4, lent, 4) == 256 * 11);
+}
+
+/* The order is any stretch of bytes in which the table lies: judged as a copy of it is. */
 static void overlapping(int side)
 {
-    uint8_t table[OORLICHDAY_TABLE_MAX], copy[OORLICHDAY_TABLE_MAX];
-    size_t length = greatest(table, 0);
-    memcpy(copy, table, length);
-    uint8_t *lent = lend_copy(first, table, length, side);
-    for (size_t from = 0; from <= length; from += 5) {
-        uint32_t answer = oorlichday_verdict(lent, length, lent + from, length - from);
-        EXPECT(answer == oorlichday_verdict(table, length, copy + from, length - from));
+    enum { ROUND_IT = 40, WHOLE = ROUND_IT + OORLICHDAY_TABLE_MAX + ROUND_IT };
+    uint8_t bytes[WHOLE], copy[WHOLE];
+    for (size_t at = 0; at < WHOLE; at++)
+        bytes[at] = (uint8_t)(some_number() % 224);
+    size_t length = greatest(bytes + ROUND_IT, 0);
+    memcpy(copy, bytes, WHOLE);
+    uint8_t *lent = lend_copy(first, bytes, WHOLE, side);
+    for (int round = 0; round < 3000; round++) {
+        size_t from = some_number() % (WHOLE + 1), count = some_number() % (WHOLE + 1 - from);
+        EXPECT(oorlichday_verdict(lent + ROUND_IT, length, lent + from, count) ==
+               oorlichday_verdict(bytes + ROUND_IT, length, copy + from, count));
     }
-    EXPECT(memcmp(lent, table, length) == 0 && canaries(first, lent, length));
+    EXPECT(memcmp(lent, bytes, WHOLE) == 0 && canaries(first, lent, WHOLE));
 }
 
 static void any_bytes(int side)
 {
     static const uint8_t a[] = { 2, 2, 2, 0, 0, 1, 0, 1, 0, 1, 1, 0 };
-    uint8_t calls[300];
+    uint8_t table[700], calls[300];
     for (int round = 0; round < 2000; round++) {
-        size_t count = some_number() % sizeof calls;
-        for (size_t at = 0; at < count; at++)
-            calls[at] = (uint8_t)(some_number() % (round % 2 ? 256 : 7));
+        size_t count = some_bytes(calls, sizeof calls, round % 2 ? 256 : 7);
         uint32_t answer = verdict(a, sizeof a, calls, count, side);
         EXPECT(answer == 6 || (answer / 256 >= 11 && answer / 256 <= 18 && answer % 256 <= 6));
+        size_t length = some_bytes(table, sizeof table, round % 2 ? 256 : 4);
+        answer = verdict(table, length, calls, count, side);
+        EXPECT(answer % 256 == 0 || answer < 225 || answer / 256 >= 11);
+        EXPECT(answer / 256 <= 18 && (answer / 256 <= 7 || answer / 256 >= 11));
     }
 }
 
@@ -99,7 +122,8 @@ int main(void)
     first = pages(), second = pages();
     run("examples of the document", examples);
     run("the greatest table by orders of every length", great);
-    run("table and order overlap", overlapping);
+    run("table and order share bytes", shared);
+    run("the greatest table within the order", overlapping);
     run("any bytes", any_bytes);
     return report();
 }

@@ -78,26 +78,12 @@ impl Reading {
     }
 
     fn unit(&mut self, line: usize, name: &[u8]) -> Result<(), usize> {
-        if find(&self.units, 0, name).is_some() {
-            return Err(26);
-        }
-        if self.units.len() == 32 {
-            return Err(29);
-        }
-        self.units.push(Declared { unit: 0, name: name.to_vec(), line });
-        Ok(())
+        declare(&mut self.units, 32, Declared { unit: 0, name: name.to_vec(), line })
     }
 
     fn out(&mut self, line: usize, unit: &[u8], name: &[u8]) -> Result<(), usize> {
         let unit = find(&self.units, 0, unit).ok_or(27usize)?;
-        if find(&self.outputs, unit, name).is_some() {
-            return Err(26);
-        }
-        if self.outputs.len() == 96 {
-            return Err(29);
-        }
-        self.outputs.push(Declared { unit, name: name.to_vec(), line });
-        Ok(())
+        declare(&mut self.outputs, 96, Declared { unit, name: name.to_vec(), line })
     }
 
     fn input(&mut self, line: usize, unit: &[u8], name: &[u8], kind: &[u8]) -> Result<(), usize> {
@@ -105,13 +91,7 @@ impl Reading {
             return Err(28);
         }
         let unit = find(&self.units, 0, unit).ok_or(27usize)?;
-        if find(&self.inputs, unit, name).is_some() {
-            return Err(26);
-        }
-        if self.inputs.len() == 96 {
-            return Err(29);
-        }
-        self.inputs.push(Declared { unit, name: name.to_vec(), line });
+        declare(&mut self.inputs, 96, Declared { unit, name: name.to_vec(), line })?;
         self.reactive.push(kind == b"reactive");
         self.source.push(None);
         Ok(())
@@ -142,6 +122,18 @@ impl Reading {
         self.source[input] = Some(output);
         Ok(())
     }
+}
+
+/// One more name: not one that its set has, and not more than the count allows.
+fn declare(declared: &mut Vec<Declared>, most: usize, one: Declared) -> Result<(), usize> {
+    if find(declared, one.unit, &one.name).is_some() {
+        return Err(26);
+    }
+    if declared.len() == most {
+        return Err(29);
+    }
+    declared.push(one);
+    Ok(())
 }
 
 /// The number of the name within the unit.

@@ -8,7 +8,8 @@ mod support;
 use reference::{as_c, table::check};
 use support::calls::Lender;
 use support::damage::{damaged, mutated};
-use support::random::{fuzzing, Random};
+use support::fuzz;
+use support::random::Random;
 use support::tables;
 
 fn agree(lender: &mut Lender, bytes: &[u8]) -> usize {
@@ -81,16 +82,8 @@ fn two_faults_give_the_first_in_order() {
 
 #[test]
 fn fuzz_check() {
-    let ((rounds, mut random), mut lender) = (fuzzing(15), Lender::new());
+    let ((rounds, mut random), mut lender) = (fuzz::fuzzing(15), Lender::new());
     for _ in 0..rounds {
-        let length = random.below(700);
-        let bytes = match random.below(3) {
-            0 => random.bytes(length),
-            _ => {
-                let table = tables::sound(&mut random).packed();
-                mutated(&mut random, &table)
-            }
-        };
-        agree(&mut lender, &bytes);
+        agree(&mut lender, &fuzz::table(&mut random));
     }
 }

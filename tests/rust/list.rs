@@ -8,8 +8,8 @@ mod support;
 use reference::{list::list, list::listing, Answer};
 use support::calls::{shown, Lender};
 use support::faults::faulty;
-use support::random::{fuzzing, Random};
-use support::several::many_faults;
+use support::fuzz;
+use support::random::Random;
 use support::tables::{self, chain, relabelled, ring};
 use support::texts::{bytes, mixed, plain, Names};
 
@@ -77,13 +77,9 @@ fn greatest_listing() {
 
 #[test]
 fn fuzz_list() {
-    let ((rounds, mut random), mut lender) = (fuzzing(55), Lender::new());
+    let ((rounds, mut random), mut lender) = (fuzz::fuzzing(55), Lender::new());
     for _ in 0..rounds / 2 {
-        let table = tables::small(&mut random);
-        let names = Names::random(&mut random, &table);
-        let lines = mixed(&mut random, &table, &names);
-        let text =
-            if random.percent(50) { bytes(&lines) } else { many_faults(&mut random, &lines) };
+        let text = fuzz::text(&mut random);
         let room = if random.percent(50) { 10_000 } else { random.below(4_000) };
         agree(&mut lender, &mut random, &text, room);
     }

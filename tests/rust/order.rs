@@ -8,8 +8,9 @@ mod support;
 use reference::table::Table;
 use reference::{as_c, order::order, Answer};
 use support::calls::Lender;
-use support::damage::{damaged, mutated};
-use support::random::{fuzzing, Random};
+use support::damage::damaged;
+use support::fuzz;
+use support::random::Random;
 use support::tables::{self, acyclic, any, chain, counts, relabelled, ring, GREATEST};
 
 fn agree(lender: &mut Lender, random: &mut Random, bytes: &[u8], room: usize) -> Answer {
@@ -125,19 +126,9 @@ fn add_a_tail(table: &mut Table) {
 
 #[test]
 fn fuzz_order() {
-    let ((rounds, mut random), mut lender) = (fuzzing(27), Lender::new());
+    let ((rounds, mut random), mut lender) = (fuzz::fuzzing(27), Lender::new());
     for _ in 0..rounds {
-        let bytes = match random.below(6) {
-            0 => {
-                let length = random.below(700);
-                random.bytes(length)
-            }
-            1 | 2 => tables::sound(&mut random).packed(),
-            _ => {
-                let table = tables::sound(&mut random).packed();
-                mutated(&mut random, &table)
-            }
-        };
+        let bytes = fuzz::table(&mut random);
         let room = if random.percent(70) { 224 } else { random.below(260) };
         agree(&mut lender, &mut random, &bytes, room);
     }

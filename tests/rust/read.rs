@@ -7,9 +7,9 @@ mod support;
 
 use reference::{table::check, text::read, Answer};
 use support::calls::{shown, Lender};
-use support::damage::mutated;
 use support::faults::faulty;
-use support::random::{fuzzing, Random};
+use support::fuzz;
+use support::random::Random;
 use support::several::{many_faults, one_more, one_more_feed};
 use support::tables::{self, any, chain, GREATEST};
 use support::texts::{bytes, mixed, plain, Names};
@@ -138,22 +138,10 @@ fn every_packed_buffer_length() {
 
 #[test]
 fn fuzz_read() {
-    let ((rounds, mut random), mut lender) = (fuzzing(47), Lender::new());
+    let ((rounds, mut random), mut lender) = (fuzz::fuzzing(47), Lender::new());
     for _ in 0..rounds {
-        let table = tables::small(&mut random);
-        let names = Names::random(&mut random, &table);
-        let lines = mixed(&mut random, &table, &names);
-        let text = match random.below(4) {
-            0 => {
-                let letters = b"unitojefdcsm1\t\t\n\n_";
-                let length = random.below(60);
-                let tail: Vec<u8> =
-                    (0..length).map(|_| letters[random.below(letters.len())]).collect();
-                [&b"cosim\t1\n"[..], &tail, b"\n"].concat()
-            }
-            1 => mutated(&mut random, &bytes(&lines)),
-            _ => many_faults(&mut random, &lines),
-        };
-        agree(&mut lender, &mut random, &text, 644);
+        let text = fuzz::text(&mut random);
+        let room = if random.percent(80) { 644 } else { random.below(200) };
+        agree(&mut lender, &mut random, &text, room);
     }
 }

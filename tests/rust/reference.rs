@@ -83,23 +83,31 @@ fn text_and_listing_of_the_document() {
     let expected = b"order\t6\n0\tstep\tpump\t-\n1\tget\tpump\tflow\n2\tset\ttank\tflow\n\
 3\tstep\ttank\t-\n4\tget\ttank\tlevel\n5\tset\tpump\tlevel\n";
     assert_eq!(listing(TEXT), expected.to_vec());
-    let refused: [(&[u8], Answer); 12] = [
-        (b"", answer(20, 0)),
-        (b"\n", answer(23, 1)),
-        (b"cosim\t1\n\n", answer(24, 2)),
-        (b"cosim\t1\nunit\n", answer(24, 2)),
-        (b"cosim\t1\nunit\t\n", answer(25, 2)),
-        (b"cosim\t1\nunit\tseventeen_letters\n", answer(25, 2)),
-        (b"cosim\t1\nin\tb\tx\tmaybe\n", answer(28, 2)),
-        (b"cosim\t1\nin\tb\tx\tdelayed\n", answer(27, 2)),
-        (b"cosim\t1\n", answer(33, 1)),
-        (b"cosim\t1\nunit\ta\nin\ta\tx\tdelayed\n", answer(31, 3)),
-        (b"cosim\t1\nunit A\nunit\ta", answer(21, 3)),
-        (b"cosim\t1\nunit A\n", answer(22, 2)),
-    ];
-    for (text, expected) in refused {
-        assert_eq!(read(text, 644), (expected, vec![]));
-    }
+}
+
+/// The readings of the text's refusals, each with the lines below a right first line.
+#[test]
+fn texts_refused() {
+    let refused = |number: usize, line: usize, below: &[&str]| {
+        for below in below {
+            let text = format!("cosim\t1\n{}", below);
+            assert_eq!(read(text.as_bytes(), 644), (answer(number, line), vec![]), "{}", text);
+        }
+    };
+    assert_eq!(read(b"", 644), (answer(20, 0), vec![]));
+    assert_eq!(read(b"\n", 644), (answer(23, 1), vec![]));
+    refused(21, 3, &["unit A\nunit\ta"]);
+    refused(22, 2, &["unit A\n"]);
+    refused(24, 2, &["\n", "unit\n", "cosim\t1\n"]);
+    refused(25, 2, &["unit\t\n", "unit\tseventeen_letters\n"]);
+    refused(26, 3, &["unit\ta\nunit\ta\n"]);
+    refused(27, 2, &["in\tb\tx\tdelayed\n"]);
+    refused(28, 2, &["in\tb\tx\tmaybe\n"]);
+    let unit = "unit\ta\nout\ta\ty\nin\ta\tx\tdelayed\n";
+    refused(30, 6, &[&format!("{}join\ta\ty\ta\tx\njoin\ta\ty\ta\tx\n", unit)]);
+    refused(31, 4, &[unit]);
+    refused(32, 6, &[&format!("{}feed\ta\tx\ty\nfeed\ta\tx\ty\n", unit)]);
+    refused(33, 1, &[""]);
 }
 
 /// The verdict on records equals that on the numbered form.

@@ -8,8 +8,9 @@ mod support;
 use reference::{as_c, order::order, verdict::verdict, Answer};
 use support::calls::Lender;
 use support::damage::{damaged, mutated};
+use support::fuzz;
 use support::orders::{near_miss, set_too_early};
-use support::random::{fuzzing, Random};
+use support::random::Random;
 use support::tables::{self, acyclic, counts};
 
 fn agree(lender: &mut Lender, table: &[u8], calls: &[u8]) -> Answer {
@@ -117,19 +118,40 @@ fn any_list_of_calls_over_any_sound_table() {
     }
 }
 
+/// Table and order are stretches of the same bytes, and often the order begins with the table's end.
+#[test]
+fn fuzz_verdict_on_shared_bytes() {
+    let ((rounds, mut random), mut lender) = (fuzz::fuzzing(37), Lender::new());
+    let mut passed = 0;
+    for _ in 0..rounds {
+        let table = fuzz::table(&mut random);
+        let calls = order(&table, 224).1;
+        let meets = |&count: &usize| table.ends_with(&calls[..count]);
+        let common = (0..=calls.len()).rev().find(meets).unwrap_or(0);
+        let bytes = [&table[..], &calls[common..]].concat();
+        let whole = random.percent(50);
+        let from = if whole { table.len() - common } else { random.below(bytes.len() + 1) };
+        let to = if whole { bytes.len() } else { random.between(from, bytes.len()) };
+        let expected = verdict(&table, &bytes[from..to]);
+        let answer = lender.shared_verdict(&bytes, 0..table.len(), from..to);
+        assert_eq!(answer, as_c(expected), "{:?} of {:?} by {:?}", from..to, bytes, table);
+        passed += (whole && common > 0 && expected.number == 0) as usize;
+    }
+    assert!(passed >= rounds / 100, "only {} passed", passed);
+}
+
 #[test]
 fn fuzz_verdict() {
-    let ((rounds, mut random), mut lender) = (fuzzing(36), Lender::new());
+    let ((rounds, mut random), mut lender) = (fuzz::fuzzing(36), Lender::new());
     for _ in 0..rounds {
         let counts = counts(&mut random);
-        let (table, mut calls) = acyclic(&mut random, counts);
-        let mut bytes = table.packed();
-        if random.percent(30) {
-            bytes = mutated(&mut random, &bytes);
-        }
-        if random.percent(80) {
-            calls = mutated(&mut random, &calls);
-        }
+        let (table, calls) = acyclic(&mut random, counts);
+        let bytes = if random.percent(30) { fuzz::table(&mut random) } else { table.packed() };
+        let calls = match random.below(6) {
+            0 => fuzz::any_bytes(&mut random, 300),
+            1 => calls,
+            _ => mutated(&mut random, &calls),
+        };
         agree(&mut lender, &bytes, &calls);
     }
 }

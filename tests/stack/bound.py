@@ -1,7 +1,7 @@
-"""The most stack each exported function can use, from its machine code and call graph.
+"""The most stack an exported function can use, from its machine code and call graph.
 
-bound.py DISASSEMBLY EXPORT...: prints a line 'EXPORT BYTES' for each. Counted are pushes, frames,
-return addresses and what is kept below the stack pointer. Refuses recursion, indirect calls, a
+bound.py DISASSEMBLY EXPORT LIMIT: prints the bytes. Counted are pushes, frames, return addresses
+and what is kept below the stack pointer. Refuses more than the limit, recursion, indirect calls, a
 stack pointer it cannot follow, and calls of anything outside but memcpy and memset.
 """
 import re
@@ -51,10 +51,10 @@ def moved(word, operands, name):
     return fail(f"{name}: cannot follow '{word} {operands}'")
 
 
-def kept_below(word, operands):
-    """How far below the stack pointer an instruction reads or writes."""
-    below = re.search(r"\[rsp-(0x[0-9a-f]+)\]", operands)
-    return int(below[1], 16) if below and word != "lea" else 0
+def kept_below(operands):
+    """How far below the stack pointer an instruction reads, writes or points."""
+    below = re.search(r"\[rsp(?:\+\w+\*\d)?-(0x[0-9a-f]+)\]", operands)
+    return int(below[1], 16) if below and not operands.startswith("rsp,") else 0
 
 
 class Walk:
@@ -84,7 +84,7 @@ class Walk:
     def take(self, index):
         _, word, operands, symbol = self.body[index]
         depth = self.depth[index] + moved(word, operands, self.name)
-        self.deepest = max(self.deepest, depth + kept_below(word, operands))
+        self.deepest = max(self.deepest, depth + kept_below(operands))
         named = re.match(r"([0-9a-f]+) <", operands)
         inside = self.place.get(int(named[1], 16)) if named and symbol is None else None
         if word == "call":
@@ -92,11 +92,20 @@ class Walk:
         elif word.startswith("j") and inside is not None:
             self.reach(inside, depth)
         elif word.startswith("j") and symbol is None and not named:
+            if not self.by_table(index):
+                fail(f"{self.name}: indirect jump '{operands}'")
             self.switches.add(depth)
         elif word.startswith("j"):
             self.leave(operands, symbol, depth - 8)
         if word not in ("jmp", "ret", "ud2", "hlt"):
             self.reach(index + 1, depth)
+
+    def by_table(self, index):
+        """Is the jump to an offset just loaded from a table and added to its place?"""
+        to = self.body[index][2]
+        loaded, added = self.body[max(index - 2, 0):index][-2:] or (None, None)
+        return (loaded[1] == "movsxd" and loaded[2].startswith(to + ",DWORD PTR [")
+                and added[1] == "add" and added[2].startswith(to + ","))
 
     def arm(self):
         """Code that only a jump table reaches begins at the depth of the jump."""
@@ -136,10 +145,12 @@ class Graph:
 
 
 def main():
-    with open(sys.argv[1], encoding="utf-8") as lines:
-        graph = Graph(read(lines))
-    for export in sys.argv[2:]:
-        print(export, graph.most("oorlichday_" + export))
+    code, export, limit = sys.argv[1:]
+    with open(code, encoding="utf-8") as lines:
+        most = Graph(read(lines)).most("oorlichday_" + export)
+    if most > int(limit):
+        fail(f"{export} can use {most} bytes, more than {limit}")
+    print(most)
 
 
 main()

@@ -2,12 +2,19 @@
 
 use super::lent::{Lent, Side};
 use crate::reference::Answer;
+use std::ops::Range;
 
 #[repr(C)]
 #[derive(Clone, Copy)]
 pub struct Reading {
     pub number: u8,
     pub place: usize,
+}
+
+impl Reading {
+    fn answer(self) -> Answer {
+        Answer { number: self.number as usize, place: self.place }
+    }
 }
 
 extern "C" {
@@ -62,48 +69,68 @@ impl Lender {
         answer
     }
 
-    /// The answer; the buffer must then hold exactly `front` and what it held before.
-    pub fn order(&mut self, table: &[u8], before: &[u8], front: &[u8]) -> u32 {
+    /// The answer of a call that writes; its second buffer must then hold exactly `front` and, behind
+    /// it, what it held before.
+    fn written<R>(
+        &mut self,
+        bytes: &[u8],
+        before: &[u8],
+        front: &[u8],
+        call: impl FnOnce(*const u8, *mut u8) -> R,
+    ) -> R {
         let (side, out_side) = self.sides();
-        let lent = self.first.lend(table, side);
+        let lent = self.first.lend(bytes, side);
         let out = self.second.lend(before, out_side);
-        let answer = unsafe { oorlichday_order(lent, table.len(), out, before.len()) };
-        assert!(self.first.unchanged(), "order changed its table {:?}", table);
-        assert!(self.second.holds(front, out_side), "order wrote otherwise: {:?}", table);
+        let answer = call(lent, out);
+        assert!(self.first.unchanged(), "changed what it reads: {}", shown(bytes));
+        assert!(self.second.holds(front, out_side), "wrote otherwise: {}", shown(bytes));
         answer
+    }
+
+    pub fn order(&mut self, table: &[u8], before: &[u8], front: &[u8]) -> u32 {
+        self.written(table, before, front, |lent, out| unsafe {
+            oorlichday_order(lent, table.len(), out, before.len())
+        })
     }
 
     pub fn verdict(&mut self, table: &[u8], order: &[u8]) -> u32 {
-        let (side, order_side) = self.sides();
-        let lent = self.first.lend(table, side);
-        let given = self.second.lend(order, order_side);
-        let answer = unsafe { oorlichday_verdict(lent, table.len(), given, order.len()) };
-        assert!(self.first.unchanged() && self.second.unchanged(), "verdict wrote: {:?}", table);
-        answer
+        self.written(table, order, &[], |lent, given| unsafe {
+            oorlichday_verdict(lent, table.len(), given, order.len())
+        })
+    }
+
+    /// The verdict where table and order are stretches of the same bytes.
+    pub fn shared_verdict(
+        &mut self,
+        bytes: &[u8],
+        table: Range<usize>,
+        order: Range<usize>,
+    ) -> u32 {
+        self.written(bytes, &[], &[], |lent, _| unsafe {
+            let (table_at, order_at) = (lent.add(table.start), lent.add(order.start));
+            oorlichday_verdict(table_at, table.len(), order_at, order.len())
+        })
     }
 
     pub fn read(&mut self, text: &[u8], before: &[u8], front: &[u8]) -> Answer {
-        let (side, out_side) = self.sides();
-        let lent = self.first.lend(text, side);
-        let out = self.second.lend(before, out_side);
-        let answer = unsafe { oorlichday_read(lent, text.len(), out, before.len()) };
-        assert!(self.first.unchanged(), "read changed its text {:?}", shown(text));
-        assert!(self.second.holds(front, out_side), "read wrote otherwise: {:?}", shown(text));
-        Answer { number: answer.number as usize, place: answer.place }
+        self.written(text, before, front, |lent, out| unsafe {
+            oorlichday_read(lent, text.len(), out, before.len()).answer()
+        })
     }
 
     pub fn list(&mut self, text: &[u8], before: &[u8], front: &[u8]) -> Answer {
-        let (side, out_side) = self.sides();
-        let lent = self.first.lend(text, side);
-        let out = self.second.lend(before, out_side);
-        let answer = unsafe { oorlichday_list(lent, text.len(), out, before.len()) };
-        assert!(self.first.unchanged(), "list changed its text {:?}", shown(text));
-        assert!(self.second.holds(front, out_side), "list wrote otherwise: {:?}", shown(text));
-        Answer { number: answer.number as usize, place: answer.place }
+        self.written(text, before, front, |lent, out| unsafe {
+            oorlichday_list(lent, text.len(), out, before.len()).answer()
+        })
     }
 }
 
-/// A text as a person reads it.
-pub fn shown(text: &[u8]) -> String {
-    String::from_utf8_lossy(text).into_owned()
+/// Bytes as a person reads them: a text as it is, any other as numbers.
+pub fn shown(bytes: &[u8]) -> String {
+    match std::str::from_utf8(bytes) {
+        Ok(text) if bytes.iter().all(|&byte| byte >= b' ' || byte == b'\t' || byte == b'\n') => {
+            text.to_string()
+        }
+        _ => format!("{:?}", bytes),
+    }
 }

@@ -4,6 +4,7 @@
 pub mod calls;
 pub mod damage;
 pub mod faults;
+pub mod fuzz;
 pub mod lent;
 pub mod names;
 pub mod orders;

@@ -47,11 +47,3 @@ impl Random {
         (0..count).map(|_| self.byte()).collect()
     }
 }
-
-/// How many rounds a fuzzing test takes and where it starts: short unless the run asks for more.
-pub fn fuzzing(salt: u64) -> (usize, Random) {
-    let number = |name: &str| std::env::var(name).ok().and_then(|text| text.parse::<u64>().ok());
-    let rounds = number("OORLICHDAY_FUZZ_ROUNDS").unwrap_or(30_000);
-    let seed = number("OORLICHDAY_FUZZ_SEED").unwrap_or(1);
-    (rounds as usize, Random::new(seed.wrapping_mul(1_000_003).wrapping_add(salt)))
-}

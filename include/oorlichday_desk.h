@@ -1,0 +1,58 @@
+/* The text table on a desk: read it into a packed table, or list the order of its calls. */
+#ifndef OORLICHDAY_DESK_H
+#define OORLICHDAY_DESK_H
+
+#include <stddef.h>
+#include <stdint.h>
+
+#ifdef __cplusplus
+extern "C" {
+#endif
+
+/* Greatest sizes in bytes of a text that is read, and of a listing. */
+#define OORLICHDAY_TEXT_MAX 24576u
+#define OORLICHDAY_LISTING_MAX 8860u
+
+/* The numbers of a text's refusal. */
+enum oorlichday_text_number {
+    OORLICHDAY_TEXT_SIZE = 20,        /* empty or over the limit; line 0 */
+    OORLICHDAY_TEXT_NOT_ENDED = 21,   /* last line not ended */
+    OORLICHDAY_TEXT_BYTE = 22,        /* a byte not allowed */
+    OORLICHDAY_TEXT_FIRST_LINE = 23,  /* first line wrong */
+    OORLICHDAY_TEXT_FORM = 24,        /* unknown keyword, or number of fields */
+    OORLICHDAY_TEXT_NAME = 25,        /* name empty or too long */
+    OORLICHDAY_TEXT_NAME_TWICE = 26,  /* name declared twice */
+    OORLICHDAY_TEXT_NOT_DECLARED = 27, /* name not declared */
+    OORLICHDAY_TEXT_KIND = 28,        /* kind word unknown */
+    OORLICHDAY_TEXT_COUNT = 29,       /* one more than a count allows */
+    OORLICHDAY_TEXT_JOINED_TWICE = 30, /* input joined twice */
+    OORLICHDAY_TEXT_NOT_JOINED = 31,  /* input without join */
+    OORLICHDAY_TEXT_FEED_TWICE = 32,  /* feed twice */
+    OORLICHDAY_TEXT_NO_UNIT = 33,     /* no unit; line 1 */
+    OORLICHDAY_TEXT_ROOM = 34         /* buffer too short; line 0 */
+};
+
+/* A refusal's number with its line, counted from 1; or 0 with how many bytes were written. */
+struct oorlichday_reading {
+    uint8_t number;
+    size_t place;
+};
+
+/* What the caller owes, and what threads may do, is as in oorlichday.h. */
+
+/* Reads a text into a packed table at the front of `table`; every other byte is left alone. */
+struct oorlichday_reading oorlichday_read(const uint8_t *text, size_t text_len,
+                                          uint8_t *table, size_t table_len);
+
+/*
+ * Writes at the front of `out` what the lister prints of a text, a refusal too; every other byte
+ * is left alone. The number is 0 with the length, or 34 with nothing written.
+ */
+struct oorlichday_reading oorlichday_list(const uint8_t *text, size_t text_len,
+                                          uint8_t *out, size_t out_len);
+
+#ifdef __cplusplus
+}
+#endif
+
+#endif
