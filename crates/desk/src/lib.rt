@@ -1,4 +1,4 @@
-// The text calls for tests and desktop programs.
+// The text calls for tests and desktop programs, which the box does not export.
 ghost use mathlib.Core.Path.{_≡_};
 ghost use lib.ListN.{length};
 ghost use Rattle.search.specs.Front.{fronted};
@@ -6,7 +6,7 @@ ghost use Rattle.grammar.specs.Reading.{reading};
 ghost use Rattle.printing.specs.Listed.{listed};
 ghost use Rattle.listing.specs.Listing.{listing};
 
-// A refusal's number with its line, or 0 with how many bytes were written.
+// A number, and a line or how many bytes were written, apart: a line may be above 255.
 #[repr(C)]
 pub struct Reading {
     pub number: u8,
@@ -30,7 +30,7 @@ pub extern "C" fn oorlichday_read(text: &[u8], table: &mut [u8]) -> Reading
     }
 }
 
-// Writes what the lister prints of a text.
+// Writes what the lister prints of a text: 0 and its length, for a refused text too; 34 and 0 where it does not fit.
 #[no_mangle]
 pub extern "C" fn oorlichday_list(text: &[u8], out: &mut [u8]) -> Reading
     ensures { λ r. ⌜ r ≡ record {

@@ -1,4 +1,4 @@
--- One line below the first: its refusal, or the draft after it. "In a line the order is as written here".
+-- One line below the first: its refusal, or the draft after it. In a line the order is 24, 25, 28, 27, 26, 30, 32, 29.
 use Prim.Native.Nat.{ℕ, zero, suc}
 use mathlib.Core.Bool.{Bool, not, _&&_, cond}
 use mathlib.Core.List.{List}
@@ -59,7 +59,7 @@ outLine d f =
     (refuse (leb 96 (length (d .outputs))) 29 d
     (taken (addOutput d (record { owner = u; name = word f 2 })))))))
 
--- `in`, unit, name, `delayed` or `reactive`; k is the line
+-- `in`, unit, name, `delayed` or `reactive`; k is the line; the kind word is no name, so an empty one is 28
 unfoldable pub inLine : Draft → ℕ → List (List ℕ) → Outcome
 inLine d k f =
     let u = unitNamed d (word f 1) in

@@ -11,7 +11,7 @@ ghost use Rattle.search.specs.Front.{fronted};
 ghost use Rattle.printing.specs.Listed.{listed};
 ghost use Rattle.listing.specs.Listing.{listing};
 
-// Writes the order, the cycle or the refusal of a text of any bytes, all of it or nothing.
+// Writes the order, the cycle or the refusal of a text of any bytes: 0 and its length, or 34 and nothing written.
 pub fn list(text: &[u8], out: &mut [u8]) -> Answer
     ensures { λ r. ⌜ r ≡ listed (listing (now (text .entry))) (length (now (out .entry))) .answer ⌝ }
     ensures { λ r. ⌜ now (out .exit)

@@ -35,7 +35,7 @@ module _ (units outputs inputs : List (List (List ℕ))) where
   unfoldable pub callsText : List ℕ → List ℕ → List ℕ
   callsText w cs = printed (w ∷ decimal (length cs) ∷ []) ++ entries 0 cs
 
-  -- what an ordering gives: 0 an order, 9 a cycle, else a refusal
+  -- what an ordering gives: 0 an order, 9 a cycle; the rest does not arise for a table that was read
   unfoldable pub outcomeText : Outcome → List ℕ
   outcomeText o =
       cond (eqb (o .answer .number) 0) (callsText (ascii "order") (o .bytes))

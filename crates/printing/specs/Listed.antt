@@ -6,6 +6,6 @@ use lib.ListN.{length}
 use lib.Dec.{ltb}
 use Rattle.table.specs.Outcome.{Outcome, outcome}
 
--- 34 where the buffer has no room for the text; else 0 with its length
+-- 34 at line 0 where the buffer has no room for the text, which document 01 leaves open; else 0 with its length
 unfoldable pub listed : List ℕ → ℕ → Outcome
 listed s room = cond (ltb room (length s)) (outcome 34 0 []) (outcome 0 (length s) s)

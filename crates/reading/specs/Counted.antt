@@ -1,4 +1,4 @@
--- How many lines a text has, and that a byte before its last LF stands on one of them.
+-- How many lines a text has, and that every byte of a text ended by LF stands on one of them.
 use Prim.Native.Nat.{ℕ, zero, suc, _-_, _<_, _≤_}
 use mathlib.Core.Path.{_≡_, refl, ap, _∙_}
 use mathlib.Core.Bool.{Bool, true, false, cond, _||_}

@@ -22,7 +22,7 @@ pub record InOrder (fs : List Row) (s : Shape) : Type 0 where
   pub output-lines : s .outputs ≡ length (linesOf fs (ascii "out"))
   pub input-lines : s .inputs ≡ length (linesOf fs (ascii "in"))
   pub feed-lines : s .feeds ≡ length (linesOf fs (ascii "feed"))
-  -- output y is declared by line y of those that open with `out`, and so on
+  -- output y is declared by line y, from 0, of those that open with `out`, and so on
   pub output-owner : (y : ℕ) → y < s .outputs → let f = getD (linesOf fs (ascii "out")) y [] in
       s .outputOwner y ≡ unitNumber fs (word f 1)
   pub input-owner : (x : ℕ) → x < s .inputs → let f = getD (linesOf fs (ascii "in")) x [] in

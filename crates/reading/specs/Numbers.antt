@@ -12,11 +12,11 @@ use Rattle.grammar.specs.Draft.{Feed}
 use Rattle.grammar.specs.Lines.{kindOf}
 use Rattle.grammar.specs.Reading.{pairs}
 
--- "Numbers are given in line order": the place of the unit n among the `unit` lines
+-- "Numbers are given in line order": the place, from 0, of the unit n among the `unit` lines, or their count
 unfoldable pub unitNumber : List Row → List ℕ → ℕ
 unitNumber fs n = place (λ f. same (word f 1) n) (linesOf fs (ascii "unit"))
 
--- the place of the port n of the unit u among the lines that open with w
+-- the place, from 0, of the port n of the unit u among the lines that open with w, or their count
 unfoldable pub portNumber : List ℕ → List Row → List ℕ → List ℕ → ℕ
 portNumber w fs u n = place (λ f. same (word f 1) u && same (word f 2) n) (linesOf fs w)
 
@@ -26,7 +26,7 @@ outputNumber = portNumber (ascii "out")
 abbrev pub inputNumber : List Row → List ℕ → List ℕ → ℕ
 inputNumber = portNumber (ascii "in")
 
--- the place of the line that joins the input n of the unit u among the `join` lines, and that line
+-- the place of the line that joins the input n of the unit u among the `join` lines, or their count; and that line
 unfoldable pub joinPlace : List Row → List ℕ → List ℕ → ℕ
 joinPlace fs u n = place (λ f. same (word f 3) u && same (word f 4) n) (linesOf fs (ascii "join"))
 

@@ -1,4 +1,5 @@
 -- The equations of a table: old means before the step, new after it.
+-- "Old inputs equal their old sources" speaks of the start alone: it is `Joined` of it, and no proof needs it.
 use mathlib.Core.Path.{_≡_}
 use mathlib.Core.Bool.{cond}
 use Prim.Native.Nat.{ℕ, _<_}

@@ -28,7 +28,7 @@ pub record Ends (t : List ℕ) (m : Rules ℤ) (order : List ℕ) (w : World ℤ
   pub moved-once : (a : ℕ) → a < total (shapeOf t)
       → (i : ℕ) × (i < length order) × (getD order i 0 ≡ a)
       × ((j : ℕ) → j < length order → getD order j 0 ≡ a → j ≡ i)
-  -- joined ports are equal
+  -- joined ports are equal, in value and in time
   pub joined : Joined (shapeOf t) (run (shapeOf t) m w order)
   -- every value and state solves the equations
   pub solves : Solves (shapeOf t) m (values w) (values (run (shapeOf t) m w order))
@@ -36,7 +36,7 @@ pub record Ends (t : List ℕ) (m : Rules ℤ) (order : List ℕ) (w : World ℤ
   pub single : (new : ℕ → ℤ) → Solves (shapeOf t) m (values w) new → (a : ℕ) → a < total (shapeOf t)
       → values (run (shapeOf t) m w order) a ≡ new a
 
--- every passed order, for any models, from anything held at one time
+-- every passed order, for any models, from anything held at one time; joined ports need not be equal then
 pub demand-3 : (t order : List ℕ) → verdictOf t order .number ≡ 0 → (m : Rules ℤ) (w : World ℤ) (n : ℕ)
     → AtTime (shapeOf t) n w → Ends t m order w n
 demand-3 t order p m w n start = record {
