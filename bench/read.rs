@@ -67,6 +67,32 @@ fn renamed(random: &mut Random, names: &Names) -> Names {
     other
 }
 
+/// Names of 16 bytes that differ in their last three and have one mark (`notes/specs/Mark.antt`), so that each is compared.
+fn of_one_mark(count: usize) -> Vec<Vec<u8>> {
+    let letters = b"abcdefghijklmnopqrstuvwxyz0123456789_";
+    let mark = |name: &[u8]| name.iter().fold(0usize, |mark, &byte| (mark * 31 + byte as usize) % 256);
+    let mut names = Vec::new();
+    for &a in letters {
+        for &b in letters {
+            for &c in letters {
+                let name = [&b"thirteen_byte"[..], &[a, b, c]].concat();
+                if mark(&name) == 0 && names.len() < count {
+                    names.push(name);
+                }
+            }
+        }
+    }
+    assert_eq!(names.len(), count);
+    names
+}
+
+/// The greatest text whose names all have one mark.
+fn marked_alike() -> Vec<u8> {
+    let names =
+        Names { units: of_one_mark(32), outputs: of_one_mark(96), inputs: of_one_mark(96) };
+    bytes(&plain_text(&late(), &names))
+}
+
 /// The dearest of so many texts of the greatest size.
 fn worst(counter: &Counter, rounds: usize, read: Read) -> u64 {
     let mut random = Random::new(84);
@@ -96,4 +122,7 @@ fn main() {
     let (proved, plain) =
         (worst_names(&counter, oorlichday_read), worst_names(&counter, plain_read));
     row("read", &format!("{}, names hunted for too", what), &size, proved, plain);
+    let alike = marked_alike();
+    let (proved, plain) = (read(oorlichday_read, &alike), read(plain_read, &alike));
+    row("read", &format!("{}, names of one mark", what), &size, proved, plain);
 }
