@@ -41,9 +41,9 @@ pub extern "C" fn oorlichday_list(text: &[u8], out: &mut [u8]) -> Reading
         ≡ fronted (listed (listing (now (text .entry))) (length (now (out .entry))) .bytes)
         (now (out .entry)) ⌝ }
 {
-    let answer = listing::list(text, out);
+    let listed = listing::list(text, out);
     Reading {
-        number: answer.number,
-        place: answer.place,
+        number: listed.number,
+        place: listed.place,
     }
 }

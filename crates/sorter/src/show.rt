@@ -43,13 +43,13 @@ pub fn write_turned(bytes: &[u8], first: usize, out: &mut [u8])
     ensures { λ r. ⌜ now (out .exit) ≡ fronted (turn first (now (bytes .entry))) (now (out .entry)) ⌝ }
 {
     let mut from = first;
-    let mut i = 0;
-    while i < bytes.len() {
+    let mut to = 0;
+    while to < bytes.len() {
         if from == bytes.len() {
             from = 0;
         }
-        out[i] = bytes[from];
+        out[to] = bytes[from];
         from += 1;
-        i += 1;
+        to += 1;
     }
 }
