@@ -67,30 +67,50 @@ fn renamed(random: &mut Random, names: &Names) -> Names {
     other
 }
 
-/// Names of 16 bytes that differ in their last three and have one mark (`notes/specs/Mark.antt`), so that each is compared.
-fn of_one_mark(count: usize) -> Vec<Vec<u8>> {
-    let letters = b"abcdefghijklmnopqrstuvwxyz0123456789_";
-    let mark = |name: &[u8]| name.iter().fold(0usize, |mark, &byte| (mark * 31 + byte as usize) % 256);
-    let mut names = Vec::new();
-    for &a in letters {
-        for &b in letters {
-            for &c in letters {
-                let name = [&b"thirteen_byte"[..], &[a, b, c]].concat();
-                if mark(&name) == 0 && names.len() < count {
-                    names.push(name);
-                }
-            }
-        }
-    }
-    assert_eq!(names.len(), count);
-    names
+/// Names of 16 bytes that differ in their last two, from the last in their order to the first.
+fn alike(count: usize) -> Vec<Vec<u8>> {
+    let letters = b"zyxwvutsrqponmlkjihgfedcba_9876543210";
+    let two = letters.iter().flat_map(|&a| letters.iter().map(move |&b| [a, b]));
+    two.take(count).map(|two| [&b"fourteen_bytes"[..], &two].concat()).collect()
 }
 
-/// The greatest text whose names all have one mark.
-fn marked_alike() -> Vec<u8> {
-    let names =
-        Names { units: of_one_mark(32), outputs: of_one_mark(96), inputs: of_one_mark(96) };
-    bytes(&plain_text(&late(), &names))
+/// How many names a search by halves meets on its way to one of so many.
+fn depth(count: usize, rank: usize) -> usize {
+    let (mut low, mut high, mut met) = (0, count, 0);
+    while low < high {
+        let middle = low + (high - low) / 2;
+        met += 1;
+        match middle.cmp(&rank) {
+            std::cmp::Ordering::Less => low = middle + 1,
+            std::cmp::Ordering::Equal => break,
+            std::cmp::Ordering::Greater => high = middle,
+        }
+    }
+    met
+}
+
+/// The numbers of the names that such a search meets last, when name 0 is the last in their order.
+fn deepest(count: usize) -> Vec<usize> {
+    let most = (0..count).map(|rank| depth(count, rank)).max();
+    (0..count).filter(|number| Some(depth(count, count - 1 - number)) == most).collect()
+}
+
+/// The greatest text built to be dear: names alike but for two bytes, each noted before all others, the deepest ones used.
+fn built() -> Vec<u8> {
+    let (unit, ports) = (deepest(32)[0], deepest(96));
+    let pairs = ports.iter().flat_map(|&x| ports.iter().map(move |&y| (x, y)));
+    let table = Table {
+        units: 32,
+        output_owner: vec![unit; 96],
+        input_owner: vec![unit; 96],
+        reactive: vec![true; 96],
+        source: vec![ports[0]; 96],
+        feeds: pairs.take(128).collect(),
+    };
+    let names = Names { units: alike(32), outputs: alike(96), inputs: alike(96) };
+    let text = bytes(&plain_text(&table, &names));
+    assert_eq!(text.len(), GREATEST_TEXT);
+    text
 }
 
 /// The dearest of so many texts of the greatest size.
@@ -112,7 +132,8 @@ fn main() {
     let most = LIMIT_OF_A_BYTE * GREATEST_TEXT as u64 - 1;
     if let Some(rounds) = rounds() {
         let dearest = worst(&counter, rounds / 4, oorlichday_read);
-        limit("read", dearest.max(worst_names(&counter, oorlichday_read)), most);
+        let named = worst_names(&counter, oorlichday_read);
+        limit("read", dearest.max(named).max(cost(&counter, oorlichday_read, &built())), most);
     }
     let read = |read: Read, text: &Vec<u8>| cost(&counter, read, text);
     rows("read", texts(85), [&|text| read(oorlichday_read, text), &|text| read(plain_read, text)]);
@@ -122,7 +143,6 @@ fn main() {
     let (proved, plain) =
         (worst_names(&counter, oorlichday_read), worst_names(&counter, plain_read));
     row("read", &format!("{}, names hunted for too", what), &size, proved, plain);
-    let alike = marked_alike();
-    let (proved, plain) = (read(oorlichday_read, &alike), read(plain_read, &alike));
-    row("read", &format!("{}, names of one mark", what), &size, proved, plain);
+    let (proved, plain) = (read(oorlichday_read, &built()), read(plain_read, &built()));
+    row("read", &format!("{}, built to be dear", what), &size, proved, plain);
 }

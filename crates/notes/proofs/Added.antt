@@ -1,26 +1,28 @@
 -- One declaration more in the notes is one more in the draft, and the notes still fit.
 use Prim.Native.Nat.{ℕ, _+_, _*_, _≤_, _<_}
 use mathlib.Core.Path.{_≡_, refl, sym, ap, _∙_}
-use mathlib.Core.List.{List, [], _∷_, _++_}
+use mathlib.Core.List.{List}
 use native.Mathlib.Omega.{arith}
-use native.Mathlib.Decide.{ℕ-discrete}
+use native.Mathlib.Nat.{zero-add}
 use borrow.Author.Count.{below-more}
 use lib.ListN.{length, getD, set, length-set}
 use lib.Seq.{getD-set-same, getD-set-other}
 use Rattle.grammar.specs.Rows.{fieldAt}
-use Rattle.grammar.specs.Draft.{Draft, Output, Input, Feed, addUnit, addOutput, addInput, addFeed, addJoin, joined, noInput}
-use Rattle.notes.specs.Listed.{listed, listed-same, listed-more, listed-set, listed-at}
+use Rattle.grammar.specs.Draft.{addUnit, addOutput, addInput, addFeed, addJoin, joined, noInput}
+use Rattle.notes.specs.Listed.{listed, listed-more, listed-set, listed-at}
 use Rattle.notes.specs.declared.Counts.{Counts}
-use Rattle.notes.specs.Notes.{nameAt, outputAt, inputAt, feedAt, draftOf, Marked, Fit, Stands}
+use Rattle.notes.specs.Ranks.{nameAt, Ranked}
+use Rattle.notes.specs.Notes.{outputAt, inputAt, feedAt, draftOf, Fit, Stands}
 use Rattle.notes.specs.Noted.{Kept, Noted}
-use Rattle.notes.proofs.Kept.{kept-all, kept-set, units-kept, outputs-kept, inputs-kept, feeds-kept, marked-kept}
+use Rattle.notes.proofs.Kept.{kept-all, kept-set, units-kept, outputs-kept, inputs-kept, feeds-kept, ranked-kept}
+use Rattle.notes.proofs.Named.{others-ranked}
 
 sums : (a b x n : ℕ) → n ≡ a + b → n + x ≡ a + (b + x)
 sums a b x n e = omega arith
 
 module _ (t p s : List ℕ) (c : Counts) (f : Fit t p s c) where
   -- a unit more; its owner's slot is 0
-  module _ (q r : List ℕ) (b : ℕ) (h : c .units < 32) (n : Noted t p s q r (c .units) b 0) where
+  module _ (q r : List ℕ) (b : ℕ) (h : c .units < 32) (n : Noted t p s q r 0 (c .units) b 0) where
     abbrev moreUnits : Counts
     moreUnits = record { units = c .units + 1; outputs = c .outputs; inputs = c .inputs; feeds = c .feeds }
 
@@ -32,16 +34,13 @@ module _ (t p s : List ℕ) (c : Counts) (f : Fit t p s c) where
       outputs-most = f .outputs-most;
       inputs-most = f .inputs-most;
       feeds-most = f .feeds-most;
-      units-marked = below-more _ _
-          (λ i g. n .others i (omega arith) (λ e. omega arith) (f .units-marked i g)) (n .marked);
+      units-ranked = n .ranked;
       units-free = below-more _ _
-          (λ i g. n .slots-kept (224 + i) (225 + i) (λ j a z e. omega arith) (λ j a z e. omega arith) .at (224 + i)
+          (λ i g. n .slots-kept (224 + i) (225 + i) (λ j a z x y. omega arith) (λ j a z e. omega arith) .at (224 + i)
           (omega arith) (omega arith) ∙ f .units-free i g)
-          (n .owner);
-      outputs-marked =
-          λ i g. n .others (32 + i) (omega (arith, f .outputs-most)) (λ e. omega arith) (f .outputs-marked i g);
-      inputs-marked =
-          λ i g. n .others (128 + i) (omega (arith, f .inputs-most)) (λ e. omega arith) (f .inputs-marked i g);
+          (ap (λ k. getD r (224 + k) 0) (sym (zero-add (c .units))) ∙ n .owner);
+      outputs-ranked = others-ranked t p s q r 0 (c .units) b 0 32 (c .outputs) n (omega arith) (λ j a z x y. omega arith) (f .outputs-ranked);
+      inputs-ranked = others-ranked t p s q r 0 (c .units) b 0 128 (c .inputs) n (omega arith) (λ j a z x y. omega arith) (f .inputs-ranked);
     }
 
     pub unit-noted : Stands t q r moreUnits (addUnit (draftOf t p s c) (fieldAt t b))
@@ -51,23 +50,23 @@ module _ (t p s : List ℕ) (c : Counts) (f : Fit t p s c) where
       is = rw (
         listed-more (nameAt t p) (nameAt t q) (c .units) (fieldAt t b)
             (units-kept t p s q r (c .units) (n .places-kept 0 (c .units) (λ j a z e. omega arith)))
-            (ap (fieldAt t) (n .place)),
+            (ap (λ k. fieldAt t (getD q k 0)) (sym (zero-add (c .units))) ∙ ap (fieldAt t) (n .place)),
         outputs-kept t p s q r (c .outputs)
             (n .places-kept 32 (32 + c .outputs) (λ j a z e. omega arith))
-            (n .slots-kept 256 (256 + c .outputs) (λ j a z e. omega arith) (λ j a z e. omega arith)),
+            (n .slots-kept 256 (256 + c .outputs) (λ j a z x y. omega arith) (λ j a z e. omega arith)),
         inputs-kept t p s q r (c .inputs)
             (n .places-kept 128 (128 + c .inputs) (λ j a z e. omega arith))
             (n .places-kept 224 (224 + c .inputs) (λ j a z e. omega arith))
-            (n .slots-kept 352 (352 + c .inputs) (λ j a z e. omega arith) (λ j a z e. omega arith))
-            (n .slots-kept 448 (448 + c .inputs) (λ j a z e. omega arith) (λ j a z e. omega arith))
-            (n .slots-kept 544 (544 + c .inputs) (λ j a z e. omega arith) (λ j a z e. omega arith)),
+            (n .slots-kept 352 (352 + c .inputs) (λ j a z x y. omega arith) (λ j a z e. omega arith))
+            (n .slots-kept 448 (448 + c .inputs) (λ j a z x y. omega arith) (λ j a z e. omega arith))
+            (n .slots-kept 544 (544 + c .inputs) (λ j a z x y. omega arith) (λ j a z e. omega arith)),
         feeds-kept t p s q r (c .feeds)
-            (n .slots-kept 640 (640 + 2 * c .feeds) (λ j a z e. omega arith) (λ j a z e. omega arith)),
+            (n .slots-kept 640 (640 + 2 * c .feeds) (λ j a z x y. omega arith) (λ j a z e. omega arith)),
       );
     }
 
   -- an output more, of unit u
-  module _ (q r : List ℕ) (b u : ℕ) (h : c .outputs < 96) (n : Noted t p s q r (32 + c .outputs) b u) where
+  module _ (q r : List ℕ) (b u : ℕ) (h : c .outputs < 96) (n : Noted t p s q r 32 (c .outputs) b u) where
     abbrev moreOutputs : Counts
     moreOutputs = record { units = c .units; outputs = c .outputs + 1; inputs = c .inputs; feeds = c .feeds }
 
@@ -79,18 +78,14 @@ module _ (t p s : List ℕ) (c : Counts) (f : Fit t p s c) where
       outputs-most = omega arith;
       inputs-most = f .inputs-most;
       feeds-most = f .feeds-most;
-      units-marked =
-          λ i g.
-          n .others i (omega (arith, f .units-most)) (λ e. omega (arith, f .units-most)) (f .units-marked i g);
+      units-ranked = others-ranked t p s q r 32 (c .outputs) b u 0 (c .units) n (omega arith) (λ j a z x y. omega (arith, f .units-most)) (f .units-ranked);
       units-free =
           λ i g.
-          n .slots-kept (224 + i) (225 + i) (λ j a z e. omega (arith, f .units-most))
+          n .slots-kept (224 + i) (225 + i) (λ j a z x y. omega (arith, f .units-most))
           (λ j a z e. omega (arith, f .units-most)) .at (224 + i)
           (omega arith) (omega arith) ∙ f .units-free i g;
-      outputs-marked = below-more _ _
-          (λ i g. n .others (32 + i) (omega arith) (λ e. omega arith) (f .outputs-marked i g)) (n .marked);
-      inputs-marked =
-          λ i g. n .others (128 + i) (omega (arith, f .inputs-most)) (λ e. omega arith) (f .inputs-marked i g);
+      outputs-ranked = n .ranked;
+      inputs-ranked = others-ranked t p s q r 32 (c .outputs) b u 128 (c .inputs) n (omega arith) (λ j a z x y. omega arith) (f .inputs-ranked);
     }
 
     pub output-noted : Stands t q r moreOutputs (addOutput (draftOf t p s c) (record { owner = u; name = fieldAt t b }))
@@ -102,21 +97,21 @@ module _ (t p s : List ℕ) (c : Counts) (f : Fit t p s c) where
         listed-more (outputAt t p s) (outputAt t q r) (c .outputs) (record { owner = u; name = fieldAt t b })
             (outputs-kept t p s q r (c .outputs)
             (n .places-kept 32 (32 + c .outputs) (λ j a z e. omega arith))
-            (n .slots-kept 256 (256 + c .outputs) (λ j a z e. omega arith) (λ j a z e. omega arith)))
+            (n .slots-kept 256 (256 + c .outputs) (λ j a z x y. omega arith) (λ j a z e. omega arith)))
             (rw (n .place, ap (λ i. getD r i 0) (sums 224 32 (c .outputs) 256 (omega arith)), n .owner)),
         inputs-kept t p s q r (c .inputs)
             (n .places-kept 128 (128 + c .inputs) (λ j a z e. omega arith))
             (n .places-kept 224 (224 + c .inputs) (λ j a z e. omega arith))
-            (n .slots-kept 352 (352 + c .inputs) (λ j a z e. omega arith) (λ j a z e. omega arith))
-            (n .slots-kept 448 (448 + c .inputs) (λ j a z e. omega arith) (λ j a z e. omega arith))
-            (n .slots-kept 544 (544 + c .inputs) (λ j a z e. omega arith) (λ j a z e. omega arith)),
+            (n .slots-kept 352 (352 + c .inputs) (λ j a z x y. omega arith) (λ j a z e. omega arith))
+            (n .slots-kept 448 (448 + c .inputs) (λ j a z x y. omega arith) (λ j a z e. omega arith))
+            (n .slots-kept 544 (544 + c .inputs) (λ j a z x y. omega arith) (λ j a z e. omega arith)),
         feeds-kept t p s q r (c .feeds)
-            (n .slots-kept 640 (640 + 2 * c .feeds) (λ j a z e. omega arith) (λ j a z e. omega arith)),
+            (n .slots-kept 640 (640 + 2 * c .feeds) (λ j a z x y. omega arith) (λ j a z e. omega arith)),
       );
     }
 
   -- an input more, of unit u: its name, then its kind, its line and that it is not joined
-  module _ (q r : List ℕ) (b u kind line : ℕ) (h : c .inputs < 96) (n : Noted t p s q r (128 + c .inputs) b u) where
+  module _ (q r : List ℕ) (b u kind line : ℕ) (h : c .inputs < 96) (n : Noted t p s q r 128 (c .inputs) b u) where
     abbrev moreInputs : Counts
     moreInputs = record { units = c .units; outputs = c .outputs; inputs = c .inputs + 1; feeds = c .feeds }
 
@@ -130,20 +125,21 @@ module _ (t p s : List ℕ) (c : Counts) (f : Fit t p s c) where
         → ((i : ℕ) → a ≤ i → i < e → i ≡ 224 + c .inputs → ⊥) → Kept a e p lined
     places-stay a e i j = kept-set (224 + c .inputs) line (n .places-kept a e i) j
 
-    slots-stay : (a e : ℕ) → ((i : ℕ) → a ≤ i → i < e → i ≡ 128 + c .inputs → ⊥)
+    slots-stay : (a e : ℕ) → ((i : ℕ) → a ≤ i → i < e → 128 ≤ i → i ≤ 128 + c .inputs → ⊥)
         → ((i : ℕ) → a ≤ i → i < e → i ≡ 224 + (128 + c .inputs) → ⊥)
         → ((i : ℕ) → a ≤ i → i < e → i ≡ 448 + c .inputs → ⊥)
         → ((i : ℕ) → a ≤ i → i < e → i ≡ 544 + c .inputs → ⊥) → Kept a e s kinded
     slots-stay a e i j k l =
         kept-set (544 + c .inputs) 255 (kept-set (448 + c .inputs) kind (n .slots-kept a e i j) k) l
 
-    -- marks of the names after the name was noted
-    marks-stay : (i : ℕ) → i < 224 → Marked t q r i → Marked t lined kinded i
-    marks-stay i g =
-        marked-kept t q r lined kinded i
-        (kept-set (224 + c .inputs) line kept-all (λ j a z e. omega arith))
-        (kept-set (544 + c .inputs) 255 (kept-set (448 + c .inputs) kind kept-all (λ j a z e. omega arith)) (λ j a z e. omega arith))
-        (kept-set (544 + c .inputs) 255 (kept-set (448 + c .inputs) kind kept-all (λ j a z e. omega arith)) (λ j a z e. omega arith))
+    -- ranks of the names after the name was noted
+    ranks-stay : (d m : ℕ) → Ranked t q r d m → Ranked t lined kinded d m
+    ranks-stay d m g =
+        ranked-kept t q r lined kinded d m
+        (kept-set (224 + c .inputs) line kept-all (λ j a z e. omega (arith, g .low)))
+        (kept-set (544 + c .inputs) 255 (kept-set (448 + c .inputs) kind kept-all (λ j a z e. omega (arith, g .low))) (λ j a z e. omega (arith, g .low)))
+        (kept-set (544 + c .inputs) 255 (kept-set (448 + c .inputs) kind kept-all (λ j a z e. omega (arith, g .low))) (λ j a z e. omega (arith, g .low)))
+        g
 
     kinded-long : length kinded ≡ 896
     kinded-long =
@@ -158,19 +154,17 @@ module _ (t p s : List ℕ) (c : Counts) (f : Fit t p s c) where
       outputs-most = f .outputs-most;
       inputs-most = omega arith;
       feeds-most = f .feeds-most;
-      units-marked = λ i g. marks-stay i (omega (arith, f .units-most))
-          (n .others i (omega (arith, f .units-most)) (λ e. omega (arith, f .units-most)) (f .units-marked i g));
+      units-ranked = ranks-stay 0 (c .units)
+          (others-ranked t p s q r 128 (c .inputs) b u 0 (c .units) n (omega arith) (λ j a z x y. omega (arith, f .units-most)) (f .units-ranked));
       units-free =
           λ i g.
-          slots-stay (224 + i) (225 + i) (λ j a z e. omega (arith, f .units-most))
+          slots-stay (224 + i) (225 + i) (λ j a z x y. omega (arith, f .units-most))
           (λ j a z e. omega (arith, f .units-most))
           (λ j a z e. omega (arith, f .units-most)) (λ j a z e. omega (arith, f .units-most)) .at (224 + i)
           (omega arith) (omega arith) ∙ f .units-free i g;
-      outputs-marked = λ i g. marks-stay (32 + i) (omega (arith, f .outputs-most))
-          (n .others (32 + i) (omega (arith, f .outputs-most)) (λ e. omega (arith, f .outputs-most)) (f .outputs-marked i g));
-      inputs-marked = below-more _ _
-          (λ i g. marks-stay (128 + i) (omega arith) (n .others (128 + i) (omega arith) (λ e. omega arith) (f .inputs-marked i g)))
-          (marks-stay (128 + c .inputs) (omega arith) (n .marked));
+      outputs-ranked = ranks-stay 32 (c .outputs)
+          (others-ranked t p s q r 128 (c .inputs) b u 32 (c .outputs) n (omega arith) (λ j a z x y. omega (arith, f .outputs-most)) (f .outputs-ranked));
+      inputs-ranked = ranks-stay 128 (c .inputs + 1) (n .ranked);
     }
 
     input-is : inputAt t lined kinded (c .inputs)
@@ -205,19 +199,19 @@ module _ (t p s : List ℕ) (c : Counts) (f : Fit t p s c) where
             (places-stay 0 (c .units) (λ j a z e. omega (arith, f .units-most)) (λ j a z e. omega (arith, f .units-most))),
         outputs-kept t p s lined kinded (c .outputs)
             (places-stay 32 (32 + c .outputs) (λ j a z e. omega (arith, f .outputs-most)) (λ j a z e. omega (arith, f .outputs-most)))
-            (slots-stay 256 (256 + c .outputs) (λ j a z e. omega (arith, f .outputs-most)) (λ j a z e. omega (arith, f .outputs-most))
+            (slots-stay 256 (256 + c .outputs) (λ j a z x y. omega (arith, f .outputs-most)) (λ j a z e. omega (arith, f .outputs-most))
             (λ j a z e. omega (arith, f .outputs-most)) (λ j a z e. omega (arith, f .outputs-most))),
         listed-more (inputAt t p s) (inputAt t lined kinded) (c .inputs)
             (record { owner = u; name = fieldAt t b; kind = kind; source = 255; line = line })
             (inputs-kept t p s lined kinded (c .inputs)
             (places-stay 128 (128 + c .inputs) (λ j a z e. omega arith) (λ j a z e. omega arith))
             (places-stay 224 (224 + c .inputs) (λ j a z e. omega arith) (λ j a z e. omega arith))
-            (slots-stay 352 (352 + c .inputs) (λ j a z e. omega arith) (λ j a z e. omega arith) (λ j a z e. omega arith) (λ j a z e. omega arith))
-            (slots-stay 448 (448 + c .inputs) (λ j a z e. omega arith) (λ j a z e. omega arith) (λ j a z e. omega arith) (λ j a z e. omega arith))
-            (slots-stay 544 (544 + c .inputs) (λ j a z e. omega arith) (λ j a z e. omega arith) (λ j a z e. omega arith) (λ j a z e. omega arith)))
+            (slots-stay 352 (352 + c .inputs) (λ j a z x y. omega arith) (λ j a z e. omega arith) (λ j a z e. omega arith) (λ j a z e. omega arith))
+            (slots-stay 448 (448 + c .inputs) (λ j a z x y. omega arith) (λ j a z e. omega arith) (λ j a z e. omega arith) (λ j a z e. omega arith))
+            (slots-stay 544 (544 + c .inputs) (λ j a z x y. omega arith) (λ j a z e. omega arith) (λ j a z e. omega arith) (λ j a z e. omega arith)))
             input-is,
         feeds-kept t p s lined kinded (c .feeds)
-            (slots-stay 640 (640 + 2 * c .feeds) (λ j a z e. omega arith) (λ j a z e. omega arith) (λ j a z e. omega arith) (λ j a z e. omega arith)),
+            (slots-stay 640 (640 + 2 * c .feeds) (λ j a z x y. omega arith) (λ j a z e. omega arith) (λ j a z e. omega arith) (λ j a z e. omega arith)),
       );
     }
 
@@ -232,18 +226,18 @@ module _ (t p s : List ℕ) (c : Counts) (f : Fit t p s c) where
       outputs-most = rw b (f .outputs-most);
       inputs-most = rw d (f .inputs-most);
       feeds-most = e;
-      units-marked = λ i g. still i (omega (arith, f .units-most)) (f .units-marked i (omega arith));
+      units-ranked = rw a (still 0 (c .units) (f .units-ranked));
       units-free =
           λ i g. k .at (224 + i) (omega arith) (omega (arith, f .units-most)) ∙ f .units-free i (omega arith);
-      outputs-marked =
-          λ i g. still (32 + i) (omega (arith, f .outputs-most)) (f .outputs-marked i (omega arith));
-      inputs-marked = λ i g. still (128 + i) (omega (arith, f .inputs-most)) (f .inputs-marked i (omega arith));
+      outputs-ranked = rw b (still 32 (c .outputs) (f .outputs-ranked));
+      inputs-ranked = rw d (still 128 (c .inputs) (f .inputs-ranked));
     }
       where
-        still : (i : ℕ) → i < 224 → Marked t p s i → Marked t p r i
-        still i h = marked-kept t p s p r i kept-all
-            (record { at = λ j a z. k .at j (omega arith) (omega arith) })
-            (record { at = λ j a z. k .at j (omega arith) (omega arith) })
+        still : (x n : ℕ) → Ranked t p s x n → Ranked t p r x n
+        still x n g = ranked-kept t p s p r x n kept-all
+            (record { at = λ j a z. k .at j (omega arith) (omega (arith, g .low)) })
+            (record { at = λ j a z. k .at j (omega arith) (omega (arith, g .low)) })
+            g
 
   -- a feed more
   module _ (x y : ℕ) (h : c .feeds < 128) where

@@ -1,50 +1,23 @@
--- A search through the marks finds what the draft's names say.
-use Prim.Native.Nat.{ℕ, _+_}
-use mathlib.Core.Path.{_≡_, sym, ap, _∙_}
-use mathlib.Core.Logic.{inl, inr}
-use mathlib.Core.Bool.{false, not, _&&_}
+-- A search through the names finds what the draft's names say.
+use Prim.Native.Nat.{ℕ, _+_, _≤_, _<_}
+use mathlib.Core.Path.{_≡_, sym, ap}
+use mathlib.Core.Bool.{Bool, true, false, _&&_}
 use mathlib.Core.List.{List, []}
 use native.Mathlib.Omega.{arith}
 use native.Mathlib.Nat.{zero-add}
 use lib.ListN.{getD}
-use lib.Dec.{T, eqb}
-use borrow.Author.Tests.{eqb-true, eq-eqb, ne-eqb}
+use lib.Dec.{eqb}
 use Rattle.search.specs.Least.{leastFrom}
-use Rattle.search.specs.Truth.{T-and, either, is-true}
 use Rattle.grammar.specs.Words.{same}
-use Rattle.grammar.specs.Same.{same-true}
-use Rattle.grammar.specs.Rows.{fieldAt}
 use Rattle.grammar.specs.Places.{place-least}
 use Rattle.grammar.specs.Draft.{noInput, unitNamed, outputNamed, inputNamed}
-use Rattle.notes.specs.Mark.{markFrom}
+use Rattle.notes.specs.Ranks.{nameAt, Spotted}
 use Rattle.notes.specs.Listed.{listed, listed-length, listed-at}
 use Rattle.notes.specs.declared.Counts.{Counts}
-use Rattle.notes.specs.Notes.{nameAt, outputAt, inputAt, draftOf, Marked, Fit}
-use Rattle.notes.specs.Notes.{isNamed, named, Findable}
-
--- a name of another mark is another name
-pub passed-over : (t p s : List ℕ) (u : ℕ) (w : List ℕ) (k : ℕ) → Marked t p s k
-    → (getD s k 0 ≡ markFrom u w → ⊥) → T (not (isNamed t p s u w k))
-unfolding isNamed
-passed-over t p s u w k m n = elim (either (isNamed t p s u w k)) [
-  | inr h ↦ h
-  | inl h ↦ let (a, e) = T-and (eqb (getD s (224 + k) 0) u) (same (nameAt t p k) w) h in
-      absurd (n (m ∙ rw (eqb-true (getD s (224 + k) 0) u (is-true _ a), same-true (nameAt t p k) w e)))
-]
+use Rattle.notes.specs.Notes.{outputAt, inputAt, draftOf, Fit, isNamed, named}
+use Rattle.notes.proofs.Ranks.{taken-low, free-least}
 
 module _ (t p s : List ℕ) (c : Counts) (f : Fit t p s c) where
-  pub units-findable : Findable t p s 0 (c .units)
-  units-findable = record {
-    low = omega (arith, f .units-most);
-    marked = λ i h. rw (zero-add i) (f .units-marked i h);
-  }
-
-  pub outputs-findable : Findable t p s 32 (c .outputs)
-  outputs-findable = record { low = omega (arith, f .outputs-most); marked = f .outputs-marked }
-
-  pub inputs-findable : Findable t p s 128 (c .inputs)
-  inputs-findable = record { low = omega (arith, f .inputs-most); marked = f .inputs-marked }
-
   pub unit-found : (w : List ℕ) → leastFrom (named t p s 0 0 w) (c .units) 0 ≡ unitNamed (draftOf t p s c) w
   unfolding unitNamed draftOf isNamed
   unit-found w =
@@ -78,12 +51,31 @@ module _ (t p s : List ℕ) (c : Counts) (f : Fit t p s c) where
       sums : (a b x n : ℕ) → n ≡ a + b → n + x ≡ a + (b + x)
       sums a b x n e = omega arith
 
-module _ (t p s : List ℕ) (u : ℕ) (w : List ℕ) (k : ℕ) where
-  pub other-owner : (getD s (224 + k) 0 ≡ u → ⊥) → false ≡ isNamed t p s u w k
-  unfolding isNamed
-  other-owner n = rw (ne-eqb _ _ n)
+-- ---- a spot that is taken, or free, as the draft has it
 
-  pub own-name : (b : ℕ) → getD s (224 + k) 0 ≡ u → b ≡ getD p k 0
-      → same (fieldAt t b) w ≡ isNamed t p s u w k
-  unfolding isNamed nameAt
-  own-name b e z = rw (eq-eqb _ _ e, z)
+module _ (t p s : List ℕ) (c : Counts) (f : Fit t p s c) (w : List ℕ) (i : ℕ) (h : Bool)
+    (o : Spotted t p s 0 (c .units) 0 w i h) where
+  pub unit-there : h ≡ true → unitNamed (draftOf t p s c) w < c .units
+  unit-there y = omega (arith, unit-found t p s c f w, taken-low t p s 0 (c .units) (f .units-ranked) 0 w i h o y)
+
+  pub unit-new : h ≡ false → c .units ≤ unitNamed (draftOf t p s c) w
+  unit-new y = omega (arith, unit-found t p s c f w, free-least t p s 0 (c .units) (f .units-ranked) 0 w i h o y)
+
+module _ (t p s : List ℕ) (c : Counts) (f : Fit t p s c) (u : ℕ) (w : List ℕ) (i : ℕ) (h : Bool) where
+  module _ (o : Spotted t p s 32 (c .outputs) u w i h) where
+    pub output-there : h ≡ true → outputNamed (draftOf t p s c) u w < c .outputs
+    output-there y =
+        omega (arith, output-found t p s c f u w, taken-low t p s 32 (c .outputs) (f .outputs-ranked) u w i h o y)
+
+    pub output-new : h ≡ false → c .outputs ≤ outputNamed (draftOf t p s c) u w
+    output-new y =
+        omega (arith, output-found t p s c f u w, free-least t p s 32 (c .outputs) (f .outputs-ranked) u w i h o y)
+
+  module _ (o : Spotted t p s 128 (c .inputs) u w i h) where
+    pub input-there : h ≡ true → inputNamed (draftOf t p s c) u w < c .inputs
+    input-there y =
+        omega (arith, input-found t p s c f u w, taken-low t p s 128 (c .inputs) (f .inputs-ranked) u w i h o y)
+
+    pub input-new : h ≡ false → c .inputs ≤ inputNamed (draftOf t p s c) u w
+    input-new y =
+        omega (arith, input-found t p s c f u w, free-least t p s 128 (c .inputs) (f .inputs-ranked) u w i h o y)

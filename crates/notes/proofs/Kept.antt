@@ -1,16 +1,15 @@
 -- Writes that leave a range of an array as it was, and what of the draft they leave.
 use Prim.Native.Nat.{ℕ, _+_, _*_, _≤_, _<_}
-use mathlib.Core.Path.{_≡_, refl, sym, ap, _∙_}
+use mathlib.Core.Path.{_≡_, refl, ap, _∙_}
 use mathlib.Core.List.{List}
 use native.Mathlib.Omega.{arith}
 use lib.ListN.{getD, set}
 use lib.Seq.{getD-set-other}
 use Rattle.grammar.specs.Rows.{fieldAt}
-use Rattle.grammar.specs.Draft.{Output, Input, Feed}
-use Rattle.notes.specs.Mark.{markFrom}
+use Rattle.notes.specs.Ranks.{nameAt, keyAt, rankAt, Ranked}
 use Rattle.notes.specs.Listed.{listed, listed-same}
 use Rattle.notes.specs.Noted.{Kept}
-use Rattle.notes.specs.Notes.{nameAt, outputAt, inputAt, feedAt, Marked}
+use Rattle.notes.specs.Notes.{outputAt, inputAt, feedAt}
 
 pub kept-all : {a b : ℕ} {xs : List ℕ} → Kept a b xs xs
 kept-all = record { at = λ i h g. refl }
@@ -54,7 +53,25 @@ module _ (t p s q r : List ℕ) where
   feeds-kept n a = listed-same (feedAt r) (feedAt s) n (λ k h.
       rw (a .at (640 + 2 * k) (omega arith) (omega arith), a .at (641 + 2 * k) (omega arith) (omega arith)))
 
-  pub marked-kept : (i : ℕ) → Kept i (1 + i) p q → Kept i (1 + i) s r → Kept (224 + i) (225 + i) s r → Marked t p s i → Marked t q r i
-  unfolding nameAt
-  marked-kept i a b c m =
-      rw (a .at i (omega arith) (omega arith), b .at i (omega arith) (omega arith), c .at (224 + i) (omega arith) (omega arith)) m
+  -- a key of a name that is kept
+  key-kept : (k : ℕ) → getD q k 0 ≡ getD p k 0 → getD r (224 + k) 0 ≡ getD s (224 + k) 0 → keyAt t q r k ≡ keyAt t p s k
+  unfolding keyAt nameAt
+  key-kept k a b = rw (a, b)
+
+  pub ranked-kept : (b n : ℕ) → Kept b (b + n) p q → Kept b (b + n) s r → Kept (224 + b) (224 + (b + n)) s r
+      → Ranked t p s b n → Ranked t q r b n
+  ranked-kept b n x y z f = record {
+    low = f .low;
+    number = λ i h. rw (slot i h) (f .number i h);
+    order = λ i j h g. rw (at i (omega arith), at j g) (f .order i j h g);
+    rank = λ k h. let (i, g, e) = f .rank k h in (i, g, slot i g ∙ e);
+  }
+    where
+      slot : (i : ℕ) → i < n → getD r (b + i) 0 ≡ getD s (b + i) 0
+      slot i h = y .at (b + i) (omega arith) (omega arith)
+
+      key : (k : ℕ) → k < n → keyAt t q r (b + k) ≡ keyAt t p s (b + k)
+      key k h = key-kept (b + k) (x .at (b + k) (omega arith) (omega arith)) (z .at (224 + (b + k)) (omega arith) (omega arith))
+
+      at : (i : ℕ) → i < n → rankAt t q r b i ≡ rankAt t p s b i
+      at i h = ap (λ k. keyAt t q r (b + k)) (slot i h) ∙ key (getD s (b + i) 0) (f .number i h)

@@ -1,6 +1,10 @@
+pub mod Ordered
 pub mod Walk
+pub mod Stretches
+pub mod Ranks
 pub mod Kept
 pub mod Named
+pub mod Putting
 pub mod Added
 pub mod Found
 pub mod Slots

@@ -11,7 +11,8 @@ use Rattle.grammar.specs.Places.{place-least}
 use Rattle.grammar.specs.Draft.{noInput, inputOf, feedOf, loose}
 use Rattle.notes.specs.Listed.{listed, listed-length, listed-at}
 use Rattle.notes.specs.declared.Counts.{Counts}
-use Rattle.notes.specs.Notes.{nameAt, outputAt, inputAt, feedAt, draftOf, isFed, isLoose}
+use Rattle.notes.specs.Ranks.{nameAt}
+use Rattle.notes.specs.Notes.{outputAt, inputAt, feedAt, draftOf, isFed, isLoose}
 
 module _ (t p s : List ℕ) (c : Counts) where
   pub feed-found : (x y : ℕ) → leastFrom (isFed s x y) (c .feeds) 0 ≡ feedOf (draftOf t p s c) x y

@@ -1,14 +1,19 @@
 -- Any two answers that the contract of a public function permits are equal.
 use Prim.Native.Nat.{ℕ}
 use mathlib.Core.Bool.{Bool}
-use mathlib.Core.List.{List}
+use mathlib.Core.List.{List, []}
+use lib.ListN.{length}
 use Rattle.search.specs.Determined.{Determined, same-answer}
 use Rattle.grammar.specs.Words.{same}
 use Rattle.grammar.specs.Rows.{fieldAt}
-use Rattle.notes.specs.Mark.{markFrom}
+use Rattle.search.specs.Least.{leastFrom}
+use Rattle.notes.specs.Compared.{differs, shorter}
 
-pub same-field-determined : (t : List ℕ) (a b : ℕ) → Determined Bool (same (fieldAt t a) (fieldAt t b))
-same-field-determined t a b = same-answer
+pub is-empty-determined : (t : List ℕ) (a : ℕ) → Determined Bool (same [] (fieldAt t a))
+is-empty-determined t a = same-answer
 
-pub mark-determined : (t : List ℕ) (a owner : ℕ) → Determined ℕ (markFrom owner (fieldAt t a))
-mark-determined t a owner = same-answer
+pub common-determined : (p q : List ℕ) → Determined ℕ (leastFrom (differs p q) (shorter p q) 0)
+common-determined p q = same-answer
+
+pub size-determined : (t : List ℕ) (a : ℕ) → Determined ℕ (length (fieldAt t a))
+size-determined t a = same-answer

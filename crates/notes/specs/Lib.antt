@@ -1,4 +1,5 @@
-pub mod Mark
+pub mod Compared
+pub mod Ranks
 pub mod Listed
 pub mod Notes
 pub mod Noted

@@ -1,6 +1,6 @@
 -- How the arrays of notes stand for a draft.
 -- places: where each name begins (units from 0 on, outputs from 32, inputs from 128), then the line of each input (from 224).
--- slots: the mark of each name (from 0), its owner (from 224), kinds (448), sources (544), feeds by pairs (640).
+-- slots: the names' numbers by rank (from 0, parted as the names are), each name's owner (from 224), kinds (448), sources (544), feeds by pairs (640).
 use Prim.Native.Nat.{ℕ, _+_, _*_, _<_, _≤_}
 use mathlib.Core.Path.{_≡_}
 use mathlib.Core.Bool.{Bool, _&&_}
@@ -8,16 +8,12 @@ use mathlib.Core.List.{List}
 use lib.ListN.{length, getD}
 use lib.Dec.{eqb}
 use Rattle.grammar.specs.Words.{same}
-use Rattle.grammar.specs.Rows.{fieldAt}
 use Rattle.grammar.specs.Draft.{Draft, Output, Input, Feed}
-use Rattle.notes.specs.Mark.{markFrom}
 use Rattle.notes.specs.Listed.{listed}
+use Rattle.notes.specs.Ranks.{nameAt, Ranked}
 use Rattle.notes.specs.declared.Counts.{Counts}
 
 -- ---- what stands in the slots of one number
-
-unfoldable pub nameAt : List ℕ → List ℕ → ℕ → List ℕ
-nameAt t p i = fieldAt t (getD p i 0)
 
 unfoldable pub outputAt : List ℕ → List ℕ → List ℕ → ℕ → Output
 outputAt t p s y = record { owner = getD s (256 + y) 0; name = nameAt t p (32 + y) }
@@ -45,10 +41,6 @@ draftOf t p s c =
       feeds = listed (feedAt s) (c .feeds);
     }
 
--- the mark of name i is right
-abbrev pub Marked : List ℕ → List ℕ → List ℕ → ℕ → Type 0
-Marked t p s i = getD s i 0 ≡ markFrom (getD s (224 + i) 0) (nameAt t p i)
-
 -- what the notes keep: the arrays' sizes, the counts' limits, names that can be found
 pub record Fit (t p s : List ℕ) (c : Counts) : Type 0 where
   pub places-long : length p ≡ 320
@@ -57,10 +49,10 @@ pub record Fit (t p s : List ℕ) (c : Counts) : Type 0 where
   pub outputs-most : c .outputs ≤ 96
   pub inputs-most : c .inputs ≤ 96
   pub feeds-most : c .feeds ≤ 128
-  pub units-marked : (i : ℕ) → i < c .units → Marked t p s i
+  pub units-ranked : Ranked t p s 0 (c .units)
   pub units-free : (i : ℕ) → i < c .units → getD s (224 + i) 0 ≡ 0
-  pub outputs-marked : (i : ℕ) → i < c .outputs → Marked t p s (32 + i)
-  pub inputs-marked : (i : ℕ) → i < c .inputs → Marked t p s (128 + i)
+  pub outputs-ranked : Ranked t p s 32 (c .outputs)
+  pub inputs-ranked : Ranked t p s 128 (c .inputs)
 
 -- the notes stand for that draft
 pub record Stands (t p s : List ℕ) (c : Counts) (d : Draft) : Type 0 where
@@ -74,11 +66,6 @@ isNamed t p s u w k = eqb (getD s (224 + k) 0) u && same (nameAt t p k) w
 -- the same of the names from name b on
 abbrev pub named : List ℕ → List ℕ → List ℕ → ℕ → ℕ → List ℕ → ℕ → Bool
 named t p s b u w i = isNamed t p s u w (b + i)
-
--- count names from name b on have slots, and their marks are right
-pub record Findable (t p s : List ℕ) (b count : ℕ) : Type 0 where
-  pub low : b + count ≤ 224
-  pub marked : (i : ℕ) → i < count → Marked t p s (b + i)
 
 -- feed k is from input x to output y
 unfoldable pub isFed : List ℕ → ℕ → ℕ → ℕ → Bool

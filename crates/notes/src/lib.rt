@@ -1,9 +1,11 @@
-// Names as fields of the text: a byte that marks a name of an owner, and two names compared.
+// Names as fields of the text: where one ends, how long it is, and what two stretches of bytes have in common.
 ghost use mathlib.Core.Path.{_≡_};
 ghost use mathlib.Core.List.{[]};
+ghost use lib.ListN.{length};
 ghost use Rattle.grammar.specs.Words.{same};
 ghost use Rattle.grammar.specs.Rows.{fieldAt};
-ghost use Rattle.notes.specs.Mark.{markFrom};
+ghost use Rattle.search.specs.Least.{leastFrom};
+ghost use Rattle.notes.specs.Compared.{differs, shorter};
 
 // How many of each have been noted.
 pub struct Counts {
@@ -14,7 +16,7 @@ pub struct Counts {
 }
 
 // Is the field that begins at place a empty?
-fn is_empty(text: &[u8], a: usize) -> bool
+pub fn is_empty(text: &[u8], a: usize) -> bool
     ensures { λ r. ⌜ r ≡ same [] (fieldAt (now (text .entry)) a) ⌝ }
 {
     if text.len() <= a {
@@ -27,40 +29,38 @@ fn is_empty(text: &[u8], a: usize) -> bool
     b == 9
 }
 
-// Are the fields that begin at places a and b the same?
-pub fn same_field(text: &[u8], a: usize, b: usize) -> bool
-    ensures { λ r. ⌜ r ≡ same (fieldAt (now (text .entry)) a) (fieldAt (now (text .entry)) b) ⌝ }
+// How many bytes the field that begins at place a has.
+pub fn size(text: &[u8], a: usize) -> usize
+    ensures { λ r. ⌜ r ≡ length (fieldAt (now (text .entry)) a) ⌝ }
 {
     let mut i = a;
-    let mut j = b;
     while !is_empty(text, i) {
-        if text.len() <= j {
-            return false;
-        }
-        if text[i] != text[j] {
-            return false;
-        }
-        i += 1;
-        j += 1;
-    }
-    is_empty(text, j)
-}
-
-// The mark of the field that begins at place a, as a name of that owner.
-pub fn mark(text: &[u8], a: usize, owner: u8) -> u8
-    ensures { λ r. ⌜ r ≡ markFrom owner (fieldAt (now (text .entry)) a) ⌝ }
-{
-    let mut m = owner as usize;
-    let mut i = a;
-    while !is_empty(text, i) {
-        m = (m * 31 + wide(text[i])) % 256;
         i += 1;
     }
-    (m % 256) as u8
+    i - a
 }
 
-fn wide(b: u8) -> usize
-    ensures { λ r. ⌜ r ≡ b ⌝ }
+fn length_of_shorter(p: &[u8], q: &[u8]) -> usize
+    ensures { λ r. ⌜ r ≡ shorter (now (p .entry)) (now (q .entry)) ⌝ }
 {
-    b as usize
+    let most = p.len();
+    if q.len() < most {
+        return q.len();
+    }
+    most
+}
+
+// How many first bytes two stretches have in common.
+pub fn common(p: &[u8], q: &[u8]) -> usize
+    ensures { λ r. ⌜ r ≡ leastFrom (differs (now (p .entry)) (now (q .entry))) (shorter (now (p .entry)) (now (q .entry))) 0 ⌝ }
+{
+    let most = length_of_shorter(p, q);
+    let mut i = 0;
+    while i < most {
+        if p[i] != q[i] {
+            return i;
+        }
+        i += 1;
+    }
+    i
 }

@@ -1,15 +1,15 @@
 -- The number of fields and the names of a line, checked from the places of its fields.
 use Prim.Native.Nat.{ℕ, zero, suc, _+_, _-_, _≤_, _<_}
 use mathlib.Core.Path.{_≡_, refl, sym, ap, _∙_}
-use mathlib.Core.Bool.{Bool, true, false, not, _&&_, cond}
+use mathlib.Core.Bool.{Bool, true, false, not, cond}
 use mathlib.Core.List.{List}
 use native.Mathlib.Numerals.{add-one}
 use native.Mathlib.Omega.{arith}
 use native.Mathlib.Decide.{decLt}
 use lib.ListN.{length, getD}
-use lib.Dec.{eqb, ltb, leb}
+use lib.Dec.{eqb, ltb}
 use borrow.Author.Tests.{eqb-true, eq-eqb, ne-eqb, lt-ltb, le-ltb, le-leb, lt-leb}
-use Rattle.grammar.specs.Rows.{rowAt, word, fieldAt, wordEnd}
+use Rattle.grammar.specs.Rows.{rowAt, word, wordEnd}
 use Rattle.grammar.specs.Lines.{Outcome, faulty, isName, refuse, refused}
 use Rattle.grammar.specs.Draft.{Draft}
 use Rattle.grammar.specs.Lexed.{Lexed}

@@ -1,15 +1,13 @@
 -- One law for each return of the lines that declare a unit, an output or an input.
 use Prim.Native.Nat.{ℕ, _≤_, _<_}
-use mathlib.Core.Path.{_≡_, refl, ap, sym, _∙_}
-use mathlib.Core.Bool.{true, false, not}
+use mathlib.Core.Path.{_≡_, ap, _∙_}
 use mathlib.Core.List.{List}
 use native.Mathlib.Omega.{arith}
-use lib.ListN.{length, getD}
-use lib.Dec.{eqb, leb}
+use lib.ListN.{getD}
 use borrow.Author.Tests.{eq-eqb, ne-eqb}
 use Rattle.grammar.specs.Rows.{rowAt, word, fieldAt}
-use Rattle.grammar.specs.Draft.{Draft, Output, Input, unjoined, unitNamed, outputNamed, inputNamed, addUnit, addOutput, addInput}
-use Rattle.grammar.specs.Lines.{refuse, refused, taken, unitLine, outLine, inLine, kindOf}
+use Rattle.grammar.specs.Draft.{Draft, Input, unjoined, unitNamed, outputNamed, inputNamed, addUnit, addOutput, addInput}
+use Rattle.grammar.specs.Lines.{refuse, taken, unitLine, outLine, inLine, kindOf}
 use Rattle.fields.specs.declared.Fields.{Fields}
 use Rattle.notes.specs.declared.Counts.{Counts}
 use Rattle.notes.specs.Notes.{draftOf, Fit, Stands}

@@ -1,29 +1,28 @@
 -- The walk along the lines: what is noted at each line, and that the lines left give what all of them give.
-use Prim.Native.Nat.{ℕ, zero, suc, _+_, _-_, _≤_, _<_}
+use Prim.Native.Nat.{ℕ, suc, _+_, _-_, _≤_, _<_}
 use mathlib.Core.Path.{_≡_, refl, sym, ap, subst, _∙_}
 use mathlib.Core.Bool.{Bool, true, false, cond}
 use mathlib.Core.List.{List, [], _∷_}
 use native.Mathlib.Numerals.{add-one}
 use native.Mathlib.Omega.{arith}
-use native.Mathlib.Nat.{zero-add}
 use lib.ListN.{length, getD, drop, length-drop}
 use lib.Seq.{getD-drop}
 use lib.Dec.{eqb}
-use borrow.Author.Tests.{eq-eqb, ne-eqb, eqb-true}
+use borrow.Author.Tests.{ne-eqb}
 use Rattle.grammar.specs.Words.{lf, tab}
 use Rattle.grammar.specs.Rows.{rows, rowAt, grown, parted}
-use Rattle.grammar.specs.Draft.{Draft, blank}
-use Rattle.grammar.specs.Lines.{Outcome, line}
-use Rattle.grammar.specs.Reading.{Reading, linesFrom, ending, stopped}
+use Rattle.grammar.specs.Draft.{blank}
+use Rattle.grammar.specs.Lines.{line}
+use Rattle.grammar.specs.Reading.{linesFrom, stopped}
 use Rattle.fields.specs.declared.Fields.{Fields}
 use Rattle.fields.specs.Spans.{fieldsAt}
 use Rattle.fields.specs.Promise.{fields-told}
 use Rattle.notes.specs.declared.Counts.{Counts}
 use Rattle.notes.specs.Listed.{listed}
-use Rattle.notes.specs.Notes.{draftOf, Fit, Stands}
+use Rattle.notes.specs.Notes.{draftOf, Fit}
 use Rattle.notes.proofs.Walk.{drop-all}
+use Rattle.notes.proofs.Ranks.{none-ranked}
 use Rattle.text.specs.declared.Taken.{Taken}
-use Rattle.text.specs.declared.Noted.{Noted}
 use Rattle.text.specs.Took.{Told, Took}
 use Rattle.text.specs.Walked.{Ended, Walked}
 
@@ -85,10 +84,10 @@ none-fits t p s h g = record {
   outputs-most = omega arith;
   inputs-most = omega arith;
   feeds-most = omega arith;
-  units-marked = λ i z. absurd (omega arith);
+  units-ranked = none-ranked t p s 0 (omega arith);
   units-free = λ i z. absurd (omega arith);
-  outputs-marked = λ i z. absurd (omega arith);
-  inputs-marked = λ i z. absurd (omega arith);
+  outputs-ranked = none-ranked t p s 32 (omega arith);
+  inputs-ranked = none-ranked t p s 128 (omega arith);
 }
 
 pub going-starts : (t : List ℕ) (a : ℕ) (p s : List ℕ) → length p ≡ 320 → length s ≡ 896 → a ≤ length t

@@ -1,16 +1,16 @@
 -- The bytes that are packed are those of the draft that is noted.
-use Prim.Native.Nat.{ℕ, zero, suc, _+_, _-_, _*_, _≤_, _<_}
+use Prim.Native.Nat.{ℕ, zero, suc, _+_, _-_, _*_, _≤_}
 use mathlib.Core.Path.{_≡_, refl, sym, ap, _∙_}
-use mathlib.Core.List.{List, [], _∷_, _++_, map, append-assoc}
+use mathlib.Core.List.{List, [], _∷_, _++_, append-assoc}
 use native.Mathlib.Omega.{arith}
 use lib.ListN.{length, getD, take, drop, length-append, length-drop}
-use lib.Seq.{length-take-le, drop-cons, take-append-add}
-use Rattle.grammar.specs.Draft.{Draft, Output, Input, Feed}
+use lib.Seq.{length-take-le}
+use Rattle.grammar.specs.Draft.{Output, Input, Feed}
 use Rattle.grammar.specs.Reading.{packed, pairs}
 use Rattle.notes.specs.declared.Counts.{Counts}
 use Rattle.notes.specs.Listed.{listed, listed-map, listed-part, listed-length}
-use Rattle.notes.specs.Notes.{nameAt, outputAt, inputAt, feedAt, draftOf, Fit}
-use Rattle.notes.proofs.Slots.{units-are, outputs-are, inputs-are, feeds-are}
+use Rattle.notes.specs.Ranks.{nameAt}
+use Rattle.notes.specs.Notes.{outputAt, inputAt, feedAt, draftOf, Fit}
 use Rattle.search.specs.Front.{fronted}
 use Rattle.pen.specs.Put.{Put}
 use Rattle.pen.specs.Chain.{put-fits, wrote-put, wrote-front}

@@ -35,21 +35,20 @@ pub fn unit_line(
         };
     }
     let a = fields.from[1];
-    let u = draft::unit_named(text, places, slots, counts, a);
-    let units = counts.units;
-    if u < units {
+    let unit = draft::unit_spot(text, places, slots, counts, a);
+    if unit.here {
         return Taken {
             number: 26,
             counts: counts,
         };
     }
-    if 32 <= units {
+    if 32 <= counts.units {
         return Taken {
             number: 29,
             counts: counts,
         };
     }
-    let more = draft::add_unit(text, places, slots, counts, a);
+    let more = draft::add_unit(text, places, slots, counts, a, unit.rank);
     Taken {
         number: 0,
         counts: more,
@@ -87,21 +86,20 @@ pub fn out_line(
         };
     }
     let a = fields.from[2];
-    let y = draft::output_named(text, places, slots, counts, u, a);
-    let outputs = counts.outputs;
-    if y < outputs {
+    let output = draft::output_spot(text, places, slots, counts, u, a);
+    if output.here {
         return Taken {
             number: 26,
             counts: counts,
         };
     }
-    if 96 <= outputs {
+    if 96 <= counts.outputs {
         return Taken {
             number: 29,
             counts: counts,
         };
     }
-    let more = draft::add_output(text, places, slots, counts, u, a);
+    let more = draft::add_output(text, places, slots, counts, u, a, output.rank);
     Taken {
         number: 0,
         counts: more,
@@ -163,21 +161,20 @@ pub fn in_line(
         };
     }
     let a = fields.from[2];
-    let x = draft::input_named(text, places, slots, counts, u, a);
-    let inputs = counts.inputs;
-    if x < inputs {
+    let input = draft::input_spot(text, places, slots, counts, u, a);
+    if input.here {
         return Taken {
             number: 26,
             counts: counts,
         };
     }
-    if 96 <= inputs {
+    if 96 <= counts.inputs {
         return Taken {
             number: 29,
             counts: counts,
         };
     }
-    let more = draft::add_input(text, places, slots, counts, u, a, kind, line);
+    let more = draft::add_input(text, places, slots, counts, u, a, input.rank, kind, line);
     Taken {
         number: 0,
         counts: more,

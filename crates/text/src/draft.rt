@@ -3,7 +3,9 @@ ghost use mathlib.Core.Path.{_≡_};
 ghost use Prim.Native.Nat.{_<_, _+_};
 ghost use Rattle.grammar.specs.Rows.{fieldAt};
 ghost use Rattle.grammar.specs.Draft.{unitNamed, outputNamed, inputNamed, feedOf, loose as looseOf, unjoined, addUnit, addOutput, addInput, addFeed, addJoin};
+ghost use Rattle.notes.specs.Ranks.{Between, Spotted};
 ghost use Rattle.notes.specs.Notes.{draftOf, Fit, Stands};
+use crate::Spot;
 use crate::names;
 use notes::Counts;
 
@@ -53,26 +55,74 @@ pub fn input_named(
     names::find(text, places, slots, 128, counts.inputs, u as u8, a as usize)
 }
 
-// One unit more, whose name begins at place a.
+// Where the name that begins at place a stands among the units.
+pub fn unit_spot(
+    text: &[u8],
+    places: &[u16; 320],
+    slots: &[u8; 896],
+    counts: Counts,
+    a: u16,
+) -> Spot
+    requires { ⌜ Fit (now text) (now places) (now slots) counts ⌝ }
+    ensures { λ r. ⌜ Spotted (now (text .entry)) (now (places .entry)) (now (slots .entry)) 0 (counts .units) 0 (fieldAt (now (text .entry)) a) (r .rank) (r .here) ⌝ }
+{
+    names::seek(text, places, slots, 0, counts.units, 0, a as usize)
+}
+
+// Where the name that begins at place a stands among the outputs, as one of unit u.
+pub fn output_spot(
+    text: &[u8],
+    places: &[u16; 320],
+    slots: &[u8; 896],
+    counts: Counts,
+    u: usize,
+    a: u16,
+) -> Spot
+    requires { ⌜ Fit (now text) (now places) (now slots) counts ⌝ }
+    requires { ⌜ u < 32 ⌝ }
+    ensures { λ r. ⌜ Spotted (now (text .entry)) (now (places .entry)) (now (slots .entry)) 32 (counts .outputs) u (fieldAt (now (text .entry)) a) (r .rank) (r .here) ⌝ }
+{
+    names::seek(text, places, slots, 32, counts.outputs, u as u8, a as usize)
+}
+
+// Where the name that begins at place a stands among the inputs, as one of unit u.
+pub fn input_spot(
+    text: &[u8],
+    places: &[u16; 320],
+    slots: &[u8; 896],
+    counts: Counts,
+    u: usize,
+    a: u16,
+) -> Spot
+    requires { ⌜ Fit (now text) (now places) (now slots) counts ⌝ }
+    requires { ⌜ u < 32 ⌝ }
+    ensures { λ r. ⌜ Spotted (now (text .entry)) (now (places .entry)) (now (slots .entry)) 128 (counts .inputs) u (fieldAt (now (text .entry)) a) (r .rank) (r .here) ⌝ }
+{
+    names::seek(text, places, slots, 128, counts.inputs, u as u8, a as usize)
+}
+
+// One unit more, whose name begins at place a and gets that rank.
 pub fn add_unit(
     text: &[u8],
     places: &mut [u16; 320],
     slots: &mut [u8; 896],
     counts: Counts,
     a: u16,
+    rank: usize,
 ) -> Counts
     requires { ⌜ Fit (now text) (now places) (now slots) counts ⌝ }
     requires { ⌜ counts .units < 32 ⌝ }
+    requires { ⌜ Between (now text) (now places) (now slots) 0 (counts .units) 0 (fieldAt (now text) a) rank rank ⌝ }
     ensures { λ r. ⌜ Stands (now (text .entry)) (now (places .exit)) (now (slots .exit)) r (addUnit (draftOf (now (text .entry)) (now (places .entry)) (now (slots .entry)) counts) (fieldAt (now (text .entry)) a)) ⌝ }
 {
     let units = counts.units;
-    names::note(text, places, slots, units, 0, a);
+    names::note(text, places, slots, 0, units, 0, a, rank);
     let mut more = counts;
     more.units = units + 1;
     more
 }
 
-// One output of unit u more, whose name begins at place a.
+// One output of unit u more, whose name begins at place a and gets that rank.
 pub fn add_output(
     text: &[u8],
     places: &mut [u16; 320],
@@ -80,19 +130,21 @@ pub fn add_output(
     counts: Counts,
     u: usize,
     a: u16,
+    rank: usize,
 ) -> Counts
     requires { ⌜ Fit (now text) (now places) (now slots) counts ⌝ }
     requires { ⌜ (counts .outputs < 96) × (u < 32) ⌝ }
+    requires { ⌜ Between (now text) (now places) (now slots) 32 (counts .outputs) u (fieldAt (now text) a) rank rank ⌝ }
     ensures { λ r. ⌜ Stands (now (text .entry)) (now (places .exit)) (now (slots .exit)) r (addOutput (draftOf (now (text .entry)) (now (places .entry)) (now (slots .entry)) counts) (record { owner = u; name = fieldAt (now (text .entry)) a })) ⌝ }
 {
     let outputs = counts.outputs;
-    names::note(text, places, slots, 32 + outputs, u as u8, a);
+    names::note(text, places, slots, 32, outputs, u as u8, a, rank);
     let mut more = counts;
     more.outputs = outputs + 1;
     more
 }
 
-// One input of unit u more, not joined yet, whose name begins at place a, declared on that line.
+// One input of unit u more, not joined yet, declared on that line, whose name begins at place a and gets that rank.
 pub fn add_input(
     text: &[u8],
     places: &mut [u16; 320],
@@ -100,15 +152,17 @@ pub fn add_input(
     counts: Counts,
     u: usize,
     a: u16,
+    rank: usize,
     kind: u8,
     line: usize,
 ) -> Counts
     requires { ⌜ Fit (now text) (now places) (now slots) counts ⌝ }
     requires { ⌜ (counts .inputs < 96) × ((u < 32) × (line < 65536)) ⌝ }
+    requires { ⌜ Between (now text) (now places) (now slots) 128 (counts .inputs) u (fieldAt (now text) a) rank rank ⌝ }
     ensures { λ r. ⌜ Stands (now (text .entry)) (now (places .exit)) (now (slots .exit)) r (addInput (draftOf (now (text .entry)) (now (places .entry)) (now (slots .entry)) counts) (record { owner = u; name = fieldAt (now (text .entry)) a; kind = kind; source = unjoined; line = line })) ⌝ }
 {
     let inputs = counts.inputs;
-    names::note(text, places, slots, 128 + inputs, u as u8, a);
+    names::note(text, places, slots, 128, inputs, u as u8, a, rank);
     places[224 + inputs] = line as u16;
     slots[448 + inputs] = kind;
     slots[544 + inputs] = 255;

@@ -30,6 +30,12 @@ pub struct Noted {
     pub counts: Counts,
 }
 
+// The rank of a name, or where it would stand, and whether it is there.
+pub struct Spot {
+    pub rank: usize,
+    pub here: bool,
+}
+
 // 0 and the packed length, or the number of a refusal and its line.
 pub struct Answer {
     pub number: u8,

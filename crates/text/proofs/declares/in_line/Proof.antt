@@ -2,10 +2,11 @@
 use borrow.Author.Needs.{needs}
 use Rattle.text.proofs.declares.in_line.Statement.{statement}
 use Rattle.text.proofs.declares.in_line.Tie as tie
-use mathlib.Core.Path.{ap, _∙_}
+use mathlib.Core.Path.{refl, ap, _∙_}
 use native.Mathlib.Omega.{arith}
 use Rattle.grammar.specs.Rows.{stretch}
 use Rattle.grammar.specs.Lines.{kindOf}
+use Rattle.notes.proofs.Found.{input-there, input-new}
 use Rattle.text.proofs.Counted.{has-field}
 use Rattle.text.proofs.Outcomes.{word-here, word-ends}
 use Rattle.text.proofs.Declared.{in-stops, in-28, in-27, in-26, in-29, in-taken}
@@ -57,16 +58,13 @@ kind-of-requires c κs = search needs
 returns-2 : tie.Need-returns-2
 unfolding stretch
 returns-2 c =
-    in-28 _ _ _ _ (c .before .before .before .before .before .before .before .before .before .before .pre .0) _
-    _ (c .before .before .before .before .before .before .before .before .before .before .pre .1 .0) _ _
+    in-28 _ _ _ _ (c .before .before .before .before .before .before .before .before .before .before .pre .0)
+    _ _ (c .before .before .before .before .before .before .before .before .before .before .pre .1 .0) _ _
     (c .before .before .before .before .before .before .before .before .shape .ensures)
-    (c .before .before .before .before .before .before .before .if1 .left) _
-    (c .before .kind-of .ensures
-    ∙ ap kindOf
-    (word-here _ _ _
+    (c .before .before .before .before .before .before .before .if1 .left) _ (c .before .kind-of .ensures ∙ ap
+    kindOf (word-here _ _ _
     (c .before .before .before .before .before .before .before .before .before .before .pre .1 .0) 3 _ _
-    (omega arith)
-    (has-field _ _ _ _ _ _
+    (omega arith) (has-field _ _ _ _ _ _
     (c .before .before .before .before .before .before .before .before .before .before .pre .1 .0) 4 2 _ 3
     (c .before .before .before .before .before .before .before .before .shape .ensures)
     (c .before .before .before .before .before .before .before .if1 .left) (omega arith))
@@ -89,13 +87,9 @@ returns-3 c =
     _ _
     (c .before .before .before .before .before .before .before .before .before .before .before .before .before .shape .ensures)
     (c .before .before .before .before .before .before .before .before .before .before .before .before .if1 .left)
-    _
-    (c .before .before .before .before .before .before .kind-of .ensures
-    ∙ ap kindOf
-    (word-here _ _ _
+    _ (c .before .before .before .before .before .before .kind-of .ensures ∙ ap kindOf (word-here _ _ _
     (c .before .before .before .before .before .before .before .before .before .before .before .before .before .before .before .pre .1 .0)
-    3 _ _ (omega arith)
-    (has-field _ _ _ _ _ _
+    3 _ _ (omega arith) (has-field _ _ _ _ _ _
     (c .before .before .before .before .before .before .before .before .before .before .before .before .before .before .before .pre .1 .0)
     4 2 _ 3
     (c .before .before .before .before .before .before .before .before .before .before .before .before .before .shape .ensures)
@@ -108,8 +102,8 @@ returns-3 c =
 element-copy-out-a : tie.Need-element-copy-out-a
 element-copy-out-a c = search needs
 
-input-named-requires : tie.Need-input-named-requires
-input-named-requires c κs = search needs
+input-spot-requires : tie.Need-input-spot-requires
+input-spot-requires c κs = search needs
 
 returns-4 : tie.Need-returns-4
 unfolding stretch
@@ -123,11 +117,9 @@ returns-4 c =
     (c .before .before .before .before .before .before .before .before .before .before .before .before .before .before .before .before .before .if1 .left)
     _
     (c .before .before .before .before .before .before .before .before .before .before .before .kind-of .ensures
-    ∙ ap kindOf
-    (word-here _ _ _
+    ∙ ap kindOf (word-here _ _ _
     (c .before .before .before .before .before .before .before .before .before .before .before .before .before .before .before .before .before .before .before .before .pre .1 .0)
-    3 _ _ (omega arith)
-    (has-field _ _ _ _ _ _
+    3 _ _ (omega arith) (has-field _ _ _ _ _ _
     (c .before .before .before .before .before .before .before .before .before .before .before .before .before .before .before .before .before .before .before .before .pre .1 .0)
     4 2 _ 3
     (c .before .before .before .before .before .before .before .before .before .before .before .before .before .before .before .before .before .before .shape .ensures)
@@ -137,50 +129,55 @@ returns-4 c =
     (c .before .before .before .before .before .before .before .before .before .before .before .before .before .wide2 .ensures)))
     (c .before .before .before .before .before .before .before .before .before .before .if2 .left) _
     (c .before .before .before .before .before .before .unit-named .ensures)
-    (c .before .before .before .before .before .if3 .left) _ (c .before .input-named .ensures) (c .if4 .taken)
+    (c .before .before .before .before .before .if3 .left) _ refl (input-there _ _ _ _
+    (c .before .before .before .before .before .before .before .before .before .before .before .before .before .before .before .before .before .before .before .before .pre .0)
+    _ _ _ _ (c .before .input-spot .ensures) (c .if4 .taken))
 
 returns-5 : tie.Need-returns-5
 unfolding stretch
 returns-5 c =
     in-29 _ _ _ _
-    (c .before .before .before .before .before .before .before .before .before .before .before .before .before .before .before .before .before .before .before .before .before .pre .0)
+    (c .before .before .before .before .before .before .before .before .before .before .before .before .before .before .before .before .before .before .before .before .before .before .pre .0)
     _ _
-    (c .before .before .before .before .before .before .before .before .before .before .before .before .before .before .before .before .before .before .before .before .before .pre .1 .0)
+    (c .before .before .before .before .before .before .before .before .before .before .before .before .before .before .before .before .before .before .before .before .before .before .pre .1 .0)
     _ _
-    (c .before .before .before .before .before .before .before .before .before .before .before .before .before .before .before .before .before .before .before .shape .ensures)
-    (c .before .before .before .before .before .before .before .before .before .before .before .before .before .before .before .before .before .before .if1 .left)
+    (c .before .before .before .before .before .before .before .before .before .before .before .before .before .before .before .before .before .before .before .before .shape .ensures)
+    (c .before .before .before .before .before .before .before .before .before .before .before .before .before .before .before .before .before .before .before .if1 .left)
     _
-    (c .before .before .before .before .before .before .before .before .before .before .before .before .kind-of .ensures
-    ∙ ap kindOf
-    (word-here _ _ _
-    (c .before .before .before .before .before .before .before .before .before .before .before .before .before .before .before .before .before .before .before .before .before .pre .1 .0)
-    3 _ _ (omega arith)
-    (has-field _ _ _ _ _ _
-    (c .before .before .before .before .before .before .before .before .before .before .before .before .before .before .before .before .before .before .before .before .before .pre .1 .0)
+    (c .before .before .before .before .before .before .before .before .before .before .before .before .before .kind-of .ensures
+    ∙ ap kindOf (word-here _ _ _
+    (c .before .before .before .before .before .before .before .before .before .before .before .before .before .before .before .before .before .before .before .before .before .before .pre .1 .0)
+    3 _ _ (omega arith) (has-field _ _ _ _ _ _
+    (c .before .before .before .before .before .before .before .before .before .before .before .before .before .before .before .before .before .before .before .before .before .before .pre .1 .0)
     4 2 _ 3
-    (c .before .before .before .before .before .before .before .before .before .before .before .before .before .before .before .before .before .before .before .shape .ensures)
-    (c .before .before .before .before .before .before .before .before .before .before .before .before .before .before .before .before .before .before .if1 .left)
+    (c .before .before .before .before .before .before .before .before .before .before .before .before .before .before .before .before .before .before .before .before .shape .ensures)
+    (c .before .before .before .before .before .before .before .before .before .before .before .before .before .before .before .before .before .before .before .if1 .left)
     (omega arith))
-    (c .before .before .before .before .before .before .before .before .before .before .before .before .before .before .before .before .wide .ensures)
-    (c .before .before .before .before .before .before .before .before .before .before .before .before .before .before .wide2 .ensures)))
-    (c .before .before .before .before .before .before .before .before .before .before .before .if2 .left) _
-    (c .before .before .before .before .before .before .before .unit-named .ensures)
-    (c .before .before .before .before .before .before .if3 .left) _ (c .before .before .input-named .ensures)
-    (c .before .if4 .left) (c .if5 .taken)
+    (c .before .before .before .before .before .before .before .before .before .before .before .before .before .before .before .before .before .wide .ensures)
+    (c .before .before .before .before .before .before .before .before .before .before .before .before .before .before .before .wide2 .ensures)))
+    (c .before .before .before .before .before .before .before .before .before .before .before .before .if2 .left)
+    _ (c .before .before .before .before .before .before .before .before .unit-named .ensures)
+    (c .before .before .before .before .before .before .before .if3 .left) _ refl (input-new _ _ _ _
+    (c .before .before .before .before .before .before .before .before .before .before .before .before .before .before .before .before .before .before .before .before .before .before .pre .0)
+    _ _ _ _ (c .before .before .before .input-spot .ensures) (c .before .before .if4 .left)) (c .if5 .taken)
 
 add-input-requires : tie.Need-add-input-requires
 add-input-requires c κs = (
-  c .before .before .before .before .before .before .before .before .before .before .before .before .before .before .before .before .before .before .before .before .before .before .before .pre .0,
+  c .before .before .before .before .before .before .before .before .before .before .before .before .before .before .before .before .before .before .before .before .before .before .before .before .pre .0,
   (
-    c .before .before .if5 .left,
     (
-      omega (
-        arith,
-        c .before .before .before .before .before .before .before .before .if3 .left,
-        c .before .before .before .before .before .before .before .before .before .before .before .before .before .before .before .before .before .before .before .before .before .before .before .pre .0 .units-most,
+      c .before .before .if5 .left,
+      (
+        omega (
+          arith,
+          c .before .before .before .before .before .before .before .before .before .if3 .left,
+          c .before .before .before .before .before .before .before .before .before .before .before .before .before .before .before .before .before .before .before .before .before .before .before .before .pre .0 .units-most,
+        ),
+        c .before .before .before .before .before .before .before .before .before .before .before .before .before .before .before .before .before .before .before .before .before .before .before .before .pre .1 .1,
       ),
-      c .before .before .before .before .before .before .before .before .before .before .before .before .before .before .before .before .before .before .before .before .before .before .before .pre .1 .1,
     ),
+    c .before .before .before .before .before .input-spot .ensures .free
+        (c .before .before .before .before .if4 .left),
   ),
 )
 
@@ -188,31 +185,32 @@ returns-6 : tie.Need-returns-6
 unfolding stretch
 returns-6 c =
     in-taken _ _ _ _
-    (c .before .before .before .before .before .before .before .before .before .before .before .before .before .before .before .before .before .before .before .before .before .before .before .before .pre .0)
+    (c .before .before .before .before .before .before .before .before .before .before .before .before .before .before .before .before .before .before .before .before .before .before .before .before .before .pre .0)
     _ _
-    (c .before .before .before .before .before .before .before .before .before .before .before .before .before .before .before .before .before .before .before .before .before .before .before .before .pre .1 .0)
+    (c .before .before .before .before .before .before .before .before .before .before .before .before .before .before .before .before .before .before .before .before .before .before .before .before .before .pre .1 .0)
     _ _
-    (c .before .before .before .before .before .before .before .before .before .before .before .before .before .before .before .before .before .before .before .before .before .before .shape .ensures)
-    (c .before .before .before .before .before .before .before .before .before .before .before .before .before .before .before .before .before .before .before .before .before .if1 .left)
+    (c .before .before .before .before .before .before .before .before .before .before .before .before .before .before .before .before .before .before .before .before .before .before .before .shape .ensures)
+    (c .before .before .before .before .before .before .before .before .before .before .before .before .before .before .before .before .before .before .before .before .before .before .if1 .left)
     _
-    (c .before .before .before .before .before .before .before .before .before .before .before .before .before .before .before .kind-of .ensures
-    ∙ ap kindOf
-    (word-here _ _ _
-    (c .before .before .before .before .before .before .before .before .before .before .before .before .before .before .before .before .before .before .before .before .before .before .before .before .pre .1 .0)
-    3 _ _ (omega arith)
-    (has-field _ _ _ _ _ _
-    (c .before .before .before .before .before .before .before .before .before .before .before .before .before .before .before .before .before .before .before .before .before .before .before .before .pre .1 .0)
+    (c .before .before .before .before .before .before .before .before .before .before .before .before .before .before .before .before .kind-of .ensures
+    ∙ ap kindOf (word-here _ _ _
+    (c .before .before .before .before .before .before .before .before .before .before .before .before .before .before .before .before .before .before .before .before .before .before .before .before .before .pre .1 .0)
+    3 _ _ (omega arith) (has-field _ _ _ _ _ _
+    (c .before .before .before .before .before .before .before .before .before .before .before .before .before .before .before .before .before .before .before .before .before .before .before .before .before .pre .1 .0)
     4 2 _ 3
-    (c .before .before .before .before .before .before .before .before .before .before .before .before .before .before .before .before .before .before .before .before .before .before .shape .ensures)
-    (c .before .before .before .before .before .before .before .before .before .before .before .before .before .before .before .before .before .before .before .before .before .if1 .left)
+    (c .before .before .before .before .before .before .before .before .before .before .before .before .before .before .before .before .before .before .before .before .before .before .before .shape .ensures)
+    (c .before .before .before .before .before .before .before .before .before .before .before .before .before .before .before .before .before .before .before .before .before .before .if1 .left)
     (omega arith))
-    (c .before .before .before .before .before .before .before .before .before .before .before .before .before .before .before .before .before .before .before .wide .ensures)
-    (c .before .before .before .before .before .before .before .before .before .before .before .before .before .before .before .before .before .wide2 .ensures)))
-    (c .before .before .before .before .before .before .before .before .before .before .before .before .before .before .if2 .left)
-    _ (c .before .before .before .before .before .before .before .before .before .before .unit-named .ensures)
-    (c .before .before .before .before .before .before .before .before .before .if3 .left) _
-    (c .before .before .before .before .before .input-named .ensures)
-    (c .before .before .before .before .if4 .left) (c .before .before .before .if5 .left) _ _ _
+    (c .before .before .before .before .before .before .before .before .before .before .before .before .before .before .before .before .before .before .before .before .wide .ensures)
+    (c .before .before .before .before .before .before .before .before .before .before .before .before .before .before .before .before .before .before .wide2 .ensures)))
+    (c .before .before .before .before .before .before .before .before .before .before .before .before .before .before .before .if2 .left)
+    _
+    (c .before .before .before .before .before .before .before .before .before .before .before .unit-named .ensures)
+    (c .before .before .before .before .before .before .before .before .before .before .if3 .left) _ refl
+    (input-new _ _ _ _
+    (c .before .before .before .before .before .before .before .before .before .before .before .before .before .before .before .before .before .before .before .before .before .before .before .before .before .pre .0)
+    _ _ _ _ (c .before .before .before .before .before .before .input-spot .ensures)
+    (c .before .before .before .before .before .if4 .left)) (c .before .before .before .if5 .left) _ _ _
     (c .add-input .ensures)
 
 pub in-line-spec : {M : Type 1} → statement M
@@ -234,7 +232,7 @@ in-line-spec =
     unit-named-requires
     returns-3
     element-copy-out-a
-    input-named-requires
+    input-spot-requires
     returns-4
     returns-5
     add-input-requires

@@ -2,16 +2,29 @@
 use borrow.Author.Needs.{needs}
 use Rattle.text.proofs.draft.add_input.Statement.{statement}
 use Rattle.text.proofs.draft.add_input.Tie as tie
+use native.Mathlib.Omega.{arith}
 use Rattle.notes.proofs.Added.{input-noted}
-
-add-note : tie.Need-add-note
-add-note c = search needs
 
 cast-note : tie.Need-cast-note
 cast-note c = search needs
 
 note-requires : tie.Need-note-requires
-note-requires c κs = search needs
+note-requires c κs = (
+  c .before .before .before .pre .0 .inputs-ranked,
+  (
+    omega (
+      arith,
+      c .before .before .before .pre .1 .0 .0,
+    ),
+    (
+      (
+        c .before .before .before .pre .0 .places-long,
+        c .before .before .before .pre .0 .slots-long,
+      ),
+      c .before .before .before .pre .1 .1,
+    ),
+  ),
+)
 
 cast-places : tie.Need-cast-places
 cast-places c = search needs
@@ -43,13 +56,12 @@ add-more c = search needs
 returns : tie.Need-returns
 returns c =
     input-noted _ _ _ _ (c .before .before .before .before .pre .0) _ _ _ _ _ _
-    (c .before .before .before .before .pre .1 .0) (c .note .ensures)
+    (c .before .before .before .before .pre .1 .0 .0) (c .note .ensures)
 
 pub add-input-spec : {M : Type 1} → statement M
 add-input-spec =
     tie.close
     (tie.spec
-    add-note
     cast-note
     note-requires
     cast-places

@@ -1,15 +1,15 @@
--- The search through the marks is the draft's search.
+-- The search through the names is the draft's search.
 use borrow.Author.Needs.{needs}
 use Rattle.text.proofs.draft.input_named.Statement.{statement}
 use Rattle.text.proofs.draft.input_named.Tie as tie
 use mathlib.Core.Path.{_∙_}
-use Rattle.notes.proofs.Found.{inputs-findable, input-found}
+use Rattle.notes.proofs.Found.{input-found}
 
 cast-find : tie.Need-cast-find
 cast-find c = search needs
 
 find-requires : tie.Need-find-requires
-find-requires c κs = inputs-findable _ _ _ _ (c .before .pre .0)
+find-requires c κs = c .before .pre .0 .inputs-ranked
 
 returns : tie.Need-returns
 returns c = c .find .ensures ∙ input-found _ _ _ _ (c .before .before .pre .0) _ _

@@ -1,15 +1,15 @@
--- The search through the marks is the draft's search.
+-- The search through the names is the draft's search.
 use borrow.Author.Needs.{needs}
 use Rattle.text.proofs.draft.output_named.Statement.{statement}
 use Rattle.text.proofs.draft.output_named.Tie as tie
 use mathlib.Core.Path.{_∙_}
-use Rattle.notes.proofs.Found.{outputs-findable, output-found}
+use Rattle.notes.proofs.Found.{output-found}
 
 cast-find : tie.Need-cast-find
 cast-find c = search needs
 
 find-requires : tie.Need-find-requires
-find-requires c κs = outputs-findable _ _ _ _ (c .before .pre .0)
+find-requires c κs = c .before .pre .0 .outputs-ranked
 
 returns : tie.Need-returns
 returns c = c .find .ensures ∙ output-found _ _ _ _ (c .before .before .pre .0) _ _

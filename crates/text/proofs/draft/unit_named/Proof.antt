@@ -1,11 +1,11 @@
--- The search through the marks is the draft's search.
+-- The search through the names is the draft's search.
 use Rattle.text.proofs.draft.unit_named.Statement.{statement}
 use Rattle.text.proofs.draft.unit_named.Tie as tie
 use mathlib.Core.Path.{_∙_}
-use Rattle.notes.proofs.Found.{units-findable, unit-found}
+use Rattle.notes.proofs.Found.{unit-found}
 
 find-requires : tie.Need-find-requires
-find-requires c κs = units-findable _ _ _ _ (c .before .pre)
+find-requires c κs = c .before .pre .units-ranked
 
 returns : tie.Need-returns
 returns c = c .find .ensures ∙ unit-found _ _ _ _ (c .before .before .pre) _
