@@ -40,6 +40,7 @@ pub fn size(text: &[u8], a: usize) -> usize
     i - a
 }
 
+// The length of the shorter of two stretches.
 fn length_of_shorter(p: &[u8], q: &[u8]) -> usize
     ensures { λ r. ⌜ r ≡ shorter (now (p .entry)) (now (q .entry)) ⌝ }
 {
