@@ -1,6 +1,6 @@
 -- One law for each answer of the functions of precedence.
 use Prim.Native.Nat.{ℕ, _<_, _≤_}
-use mathlib.Core.Path.{_≡_, refl, sym, ap, _∙_}
+use mathlib.Core.Path.{_≡_, ap, _∙_}
 use mathlib.Core.Bool.{Bool, true, false, not, _&&_}
 use mathlib.Core.List.{List}
 use lib.ListN.{getD}
@@ -11,7 +11,7 @@ use Rattle.table.specs.Shape.{Shape}
 use Rattle.table.specs.Packed.{feeds, pairs, pairInput, pairOutput, shapeOf}
 use Rattle.calls.specs.Number.{callIn}
 use Rattle.calls.specs.declared.Call.{Call}
-use Rattle.calls.specs.Precedence.{hasKind, feedsTo, before}
+use Rattle.calls.specs.Precedence.{feedsTo, before}
 
 -- a byte of the code's part is that of the table's
 pub byte-of : {r : ℕ} {bytes part : List ℕ} (i : ℕ) → r ≡ getD bytes i 0 → bytes ≡ part → r ≡ getD part i 0

@@ -1,30 +1,18 @@
 -- The declared relation and the test say the same; the direct predecessors of each kind of call.
 use mathlib.Core.Path.{_≡_, refl, sym, ap, _∙_}
 use mathlib.Core.Logic.{_⊎_, inl, inr, _↔_}
-use mathlib.Core.Bool.{Bool, true, false, not, _&&_}
-use Prim.Native.Nat.{ℕ, _+_, _≤_, _<_}
+use mathlib.Core.Bool.{not, _&&_}
+use Prim.Native.Nat.{ℕ, _<_}
 use native.Mathlib.Omega.{arith}
 use native.Mathlib.Decide.{decLt}
 use lib.Dec.{T, eqb, eqb→eq, eqb-refl}
-use Rattle.search.specs.Truth.{T-and, and-T, either, clash, eq-true}
-use Rattle.search.specs.Every.{some, some-found, found-some}
+use Rattle.search.specs.Truth.{T-and, and-T, eq-true}
+use Rattle.search.specs.Every.{some-found, found-some}
 use Rattle.table.specs.Shape.{Shape, total, Wired}
 use Rattle.calls.specs.declared.Call.{Call}
 use Rattle.calls.specs.declared.Call.the-variants.{Step, Get, Set, NoCall}
 use Rattle.calls.specs.Number.{callOf, getNo, setNo}
-use Rattle.calls.specs.Precedence.{
-  Precedes,
-  step-get,
-  get-set,
-  set-get,
-  set-step,
-  step-set,
-  feedsTo,
-  hasKind,
-  byKind,
-  before,
-  precedes,
-}
+use Rattle.calls.specs.Precedence.{Precedes, step-get, get-set, set-get, set-step, step-set, feedsTo, hasKind, byKind, before, precedes}
 use Rattle.calls.specs.Numbers.{is-step, is-get, is-set, is-none, View, at-step, at-get, at-set, view}
 
 -- ---- the tests as facts

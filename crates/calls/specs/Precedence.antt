@@ -1,6 +1,6 @@
 -- Direct precedence of calls: the five sentences of document 01, and the test that code and procedures use.
 use mathlib.Core.Path.{_≡_}
-use mathlib.Core.Bool.{Bool, true, false, _&&_}
+use mathlib.Core.Bool.{Bool, false, _&&_}
 use Prim.Native.Nat.{ℕ, _<_}
 use lib.Dec.{eqb}
 use Rattle.search.specs.Sets.{none}
@@ -8,7 +8,7 @@ use Rattle.search.specs.Every.{some}
 use Rattle.table.specs.Shape.{Shape}
 use Rattle.calls.specs.declared.Call.{Call}
 use Rattle.calls.specs.declared.Call.the-variants.{Step, Get, Set, NoCall}
-use Rattle.calls.specs.Number.{callIn, callOf, stepNo, getNo, setNo}
+use Rattle.calls.specs.Number.{callOf, stepNo, getNo, setNo}
 
 -- call a is a direct predecessor of call b
 pub data Precedes (s : Shape) (a b : ℕ) : Type 0 where

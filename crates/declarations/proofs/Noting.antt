@@ -1,12 +1,12 @@
 -- The loop over the lines: the places noted so far, and those to come from place a on.
 use Prim.Native.Nat.{ℕ, _+_, _-_, _<_, _≤_}
-use mathlib.Core.Path.{_≡_, refl, ap, sym, _∙_, subst}
-use mathlib.Core.Bool.{Bool, true, false, cond}
-use mathlib.Core.List.{List, [], _∷_, _++_}
+use mathlib.Core.Path.{_≡_, refl, sym, _∙_}
+use mathlib.Core.Bool.{Bool, true, false}
+use mathlib.Core.List.{List, [], _∷_}
 use native.Mathlib.Omega.{arith}
-use lib.ListN.{length, take, drop, set, take-append-drop, length-set}
+use lib.ListN.{length, take, set, take-append-drop}
 use lib.Seq.{take-all, take-at, length-take-le}
-use Rattle.search.specs.Front.{fronted, Fronting, fronting-starts, fronting-on, fronting-ends}
+use Rattle.search.specs.Front.{Fronting, fronting-starts, fronting-on, fronting-ends}
 use Rattle.grammar.specs.Rows.{rowAt}
 use Rattle.grammar.specs.Lexed.{Lexed}
 use Rattle.fields.specs.declared.Fields.{Fields}

@@ -1,11 +1,11 @@
 -- Laws of where lines begin: the next one, and the line that stands at each.
-use Prim.Native.Nat.{ℕ, zero, suc, _+_, _<_, _≤_}
-use mathlib.Core.Path.{_≡_, refl, ap, sym, _∙_}
-use mathlib.Core.Bool.{Bool, true, false, cond}
+use Prim.Native.Nat.{ℕ, _+_, _<_, _≤_}
+use mathlib.Core.Path.{_≡_, refl, _∙_}
+use mathlib.Core.Bool.{true, false, cond}
 use mathlib.Core.List.{List, [], _∷_}
 use native.Mathlib.Decide.{decLt, decLe}
 use native.Mathlib.Omega.{arith}
-use lib.ListN.{length, getD, drop, drop-of-length-le}
+use lib.ListN.{length, drop}
 use borrow.Author.Tests.{le-ltb, lt-ltb}
 use Rattle.grammar.specs.Rows.{rows, rowAt}
 use Rattle.grammar.specs.Lexed.{Lexed}

@@ -1,5 +1,5 @@
 -- What `order` gives, `verdict` passes, and the twin's run of it ends at the one solution of the equations.
-use mathlib.Core.Path.{_≡_, ap}
+use mathlib.Core.Path.{_≡_}
 use mathlib.Core.List.{List}
 use Prim.Native.Nat.{ℕ, _<_}
 use lib.IntN.{ℤ}

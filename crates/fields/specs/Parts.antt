@@ -1,18 +1,17 @@
 -- Each of a line's first five fields as a part of the text, the empty part where the line has no such field.
 use Prim.Native.Nat.{ℕ, _+_, _<_, _≤_}
-use mathlib.Core.Path.{_≡_, refl, ap, sym, _∙_}
+use mathlib.Core.Path.{_≡_, refl, sym, _∙_}
 use mathlib.Core.List.{List, [], _∷_}
 use native.Mathlib.Decide.{decLt}
 use native.Mathlib.Omega.{arith}
 use lib.ListN.{length, getD, getD-replicate, List·getD-eq-default}
 use lib.Seq.{getD-set-other}
 use borrow.Author.Tests.{le-leb, lt-leb, le-ltb}
-use Rattle.grammar.specs.Rows.{rowAt, word, stretch, wordEnd}
-use Rattle.grammar.specs.Lexed.{Lexed, stretch-field}
+use Rattle.grammar.specs.Rows.{rowAt, word, stretch}
+use Rattle.grammar.specs.Lexed.{stretch-field}
 use Rattle.fields.specs.declared.Fields.{Fields}
 use Rattle.fields.specs.Spans.{noFields, keep, oneMore, spans, span, fieldsAt}
 use Rattle.fields.specs.Places.{end-behind}
-use Rattle.fields.specs.Before.{Told}
 use Rattle.fields.specs.Promise.{fields-told}
 
 -- where field i of the line at place a stands

@@ -1,6 +1,6 @@
 -- Laws of lines at a place of the text: the field there, and what follows it.
 use Prim.Native.Nat.{ℕ, suc, _+_, _-_, _<_, _≤_}
-use mathlib.Core.Logic.{_⊎_, inl, inr}
+use mathlib.Core.Logic.{inl, inr}
 use mathlib.Core.Path.{_≡_, ap, sym, _∙_}
 use mathlib.Core.List.{List, [], _∷_}
 use native.Mathlib.Numerals.{add-one}

@@ -1,5 +1,5 @@
 -- Where the fields of a line begin and end, from the lines of the whole text.
-use Prim.Native.Nat.{ℕ, suc, _+_}
+use Prim.Native.Nat.{ℕ, _+_}
 use mathlib.Core.Bool.{cond}
 use mathlib.Core.List.{List, [], _∷_}
 use lib.ListN.{length, set, replicate}

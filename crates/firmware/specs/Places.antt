@@ -1,11 +1,10 @@
 -- A place of the order is at most 224: no cycle that is shown has more than N calls.
-use mathlib.Core.Path.{_≡_, refl, sym, ap, _∙_}
-use mathlib.Core.Bool.{Bool, not}
+use mathlib.Core.Path.{_≡_, sym, ap, _∙_}
 use mathlib.Core.List.{List, [], _∷_}
-use Prim.Native.Nat.{ℕ, zero, suc, _≤_, _<_, zero-le}
+use Prim.Native.Nat.{ℕ, suc, _≤_, _<_, zero-le}
 use native.Mathlib.Omega.{arith}
 use native.Mathlib.Decide.{ℕ-discrete, decLt}
-use lib.Dec.{T, not-T}
+use lib.Dec.{not-T}
 use lib.ListN.{length, getD}
 use Rattle.search.specs.Count.{count, count-le, count-none, count-add}
 use Rattle.table.specs.Check.{refusal}

@@ -1,11 +1,10 @@
 -- The place of the first that passes, as the least number that passes.
-use Prim.Native.Nat.{ℕ, zero, suc, _≤_, _<_}
+use Prim.Native.Nat.{ℕ, zero, suc, _<_}
 use mathlib.Core.Path.{_≡_, refl}
-use mathlib.Core.Bool.{Bool, true, false, not, cond}
+use mathlib.Core.Bool.{Bool, true, false, cond}
 use mathlib.Core.List.{List, [], _∷_}
 use native.Mathlib.Omega.{arith}
 use lib.ListN.{length, getD}
-use lib.Dec.{T}
 use Rattle.search.specs.Least.{Lowest, lowest-one, lowest-is, leastFrom}
 use Rattle.grammar.specs.Rows.{place}
 

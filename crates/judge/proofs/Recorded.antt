@@ -1,17 +1,17 @@
 -- One law for each answer of the functions that the walk over records calls.
-use mathlib.Core.Path.{_≡_, refl, sym, ap, _∙_}
-use mathlib.Core.Bool.{Bool, true, false, cond}
+use mathlib.Core.Path.{_≡_, _∙_}
+use mathlib.Core.Bool.{true, false, cond}
 use mathlib.Core.List.{List}
 use Prim.Native.Nat.{ℕ, _+_, _≤_, _<_}
 use native.Mathlib.Omega.{arith}
 use lib.ListN.{set, replicate}
-use lib.Dec.{eqb, ltb}
+use lib.Dec.{ltb}
 use borrow.Author.Tests.{eq-eqb, ne-eqb}
 use Rattle.search.specs.Truth.{lt-true, lt-false}
 use Rattle.table.specs.declared.Answer.{Answer}
-use Rattle.table.specs.Shape.{Shape, total}
+use Rattle.table.specs.Shape.{Shape}
 use Rattle.table.specs.Packed.{units, outputs, inputs, shapeOf}
-use Rattle.table.specs.Check.{refusal, checked}
+use Rattle.table.specs.Check.{checked}
 use Rattle.judging.specs.Conditions.{refusalAt}
 use Rattle.judging.specs.Verdict.{answer, atEnd}
 use Rattle.judge.specs.declared.records.Record.{Record}

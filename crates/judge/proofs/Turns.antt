@@ -1,7 +1,7 @@
 -- One law for each answer of a judged run and of the loop that judges an order.
-use mathlib.Core.Path.{_≡_, refl, sym, ap, _∙_}
+use mathlib.Core.Path.{_≡_, sym, ap, _∙_}
 use mathlib.Core.Logic.{_↔_}
-use mathlib.Core.Bool.{Bool, true, false, cond}
+use mathlib.Core.Bool.{Bool, true, false}
 use mathlib.Core.List.{List}
 use Prim.Native.Nat.{ℕ, suc, _+_, _^_, _≤_, _<_}
 use native.Mathlib.Numerals.{add-one}
@@ -10,9 +10,8 @@ use mir.Syntax.{w64}
 use mir.Val.{Fits}
 use lib.ListN.{length, getD, set, drop, replicate, drop-of-length-le}
 use lib.Seq.{drop-cons}
-use lib.Dec.{eqb}
 use borrow.Author.Tests.{eq-eqb, ne-eqb}
-use Rattle.search.specs.Sets.{none, add}
+use Rattle.search.specs.Sets.{none}
 use Rattle.table.specs.declared.Answer.{Answer}
 use Rattle.table.specs.Shape.{Shape, total}
 use Rattle.table.specs.Packed.{shapeOf}

@@ -1,6 +1,6 @@
 -- The marks of a judged run as a set of calls.
-use mathlib.Core.Path.{_≡_, refl, fun-ext}
-use mathlib.Core.Bool.{Bool, true, false, _&&_, _||_}
+use mathlib.Core.Path.{_≡_, fun-ext}
+use mathlib.Core.Bool.{Bool, true, false, _&&_}
 use mathlib.Core.List.{List}
 use Prim.Native.Nat.{ℕ, _<_}
 use native.Mathlib.Omega.{arith}

@@ -1,7 +1,7 @@
 -- The firmware's own schedule: a list of records read as call numbers.
 use mathlib.Core.Bool.{cond}
 use mathlib.Core.List.{List, [], _∷_}
-use Prim.Native.Nat.{ℕ, _+_}
+use Prim.Native.Nat.{ℕ}
 use lib.Dec.{eqb, ltb}
 use Rattle.table.specs.Shape.{Shape, total}
 use Rattle.calls.specs.Number.{stepNo, getNo, setNo}

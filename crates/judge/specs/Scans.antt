@@ -1,7 +1,7 @@
 -- What the judge's loops test of one input and of one feed, over the parts of a table.
 use mathlib.Core.Bool.{Bool, Bool·beq, not, _&&_}
 use mathlib.Core.List.{List}
-use Prim.Native.Nat.{ℕ, _+_, _*_}
+use Prim.Native.Nat.{ℕ, _+_}
 use lib.Dec.{eqb, leb}
 use lib.ListN.{getD}
 use Rattle.table.specs.Packed.{pairInput, pairOutput}

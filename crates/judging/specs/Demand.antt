@@ -1,5 +1,5 @@
 -- Demand 2 over the bytes: what is passed keeps the rules, and what the order's procedure writes is passed.
-use mathlib.Core.Path.{_≡_, sym, _∙_}
+use mathlib.Core.Path.{_≡_}
 use mathlib.Core.Logic.{_↔_}
 use mathlib.Core.List.{List}
 use Prim.Native.Nat.{ℕ, _≤_, zero-le}

@@ -3,10 +3,9 @@ use mathlib.Core.Path.{_≡_, refl, sym, ap, _∙_}
 use mathlib.Core.Logic.{inl, inr, _↔_}
 use mathlib.Core.Bool.{Bool, not}
 use mathlib.Core.List.{List, [], _∷_}
-use Prim.Native.Nat.{ℕ, _+_, _<_}
+use Prim.Native.Nat.{ℕ, _<_}
 use native.Mathlib.Omega.{arith}
 use lib.Dec.{T, not-T}
-use lib.ListN.{length}
 use Rattle.search.specs.Truth.{clash}
 use Rattle.search.specs.Sets.{none, add, add-self, add-more, add-cases}
 use Rattle.table.specs.Shape.{Shape, total, Wired}
@@ -14,21 +13,10 @@ use Rattle.calls.specs.declared.Call.the-variants.{Step, Get, Set}
 use Rattle.calls.specs.Number.{callOf, getNo, setNo}
 use Rattle.calls.specs.Numbers.{is-step, is-get, is-set, View, at-step, at-get, at-set, view}
 use Rattle.calls.specs.Precedence.{precedes}
-use Rattle.calls.specs.Neighbours.{
-  feeds-found,
-  found-feeds,
-  step-get-holds,
-  get-set-holds,
-  set-get-holds,
-  set-step-holds,
-  step-set-holds,
-  before-step,
-  before-get,
-  before-set,
-}
+use Rattle.calls.specs.Neighbours.{feeds-found, found-feeds, step-get-holds, get-set-holds, set-get-holds, set-step-holds, step-set-holds, before-step, before-get, before-set}
 use Rattle.orders.specs.Keeps.{Keeps}
 use Rattle.orders.specs.Follows.{Follows, keeps→follows, follows→keeps}
-use Rattle.judging.specs.Passes.{Allows, Meets, Passes}
+use Rattle.judging.specs.Passes.{Allows, Passes}
 use Rattle.judging.specs.Met.{meets-call}
 use Rattle.judging.specs.Judged.{passes-cons, passes-head, passes-tail}
 

@@ -1,12 +1,12 @@
 -- A call is answered 0 exactly where its conditions hold.
-use mathlib.Core.Path.{_≡_, refl, sym, ap, _∙_}
-use mathlib.Core.Logic.{_⊎_, inl, inr, _↔_}
-use mathlib.Core.Bool.{Bool, true, false, not, _&&_, cond, true≢false}
+use mathlib.Core.Path.{_≡_, sym, ap, _∙_}
+use mathlib.Core.Logic.{_↔_}
+use mathlib.Core.Bool.{Bool, true, false, not, _&&_, true≢false}
 use Prim.Native.Nat.{ℕ, _≤_, _<_}
 use native.Mathlib.Omega.{arith}
 use native.Mathlib.Decide.{decLt}
 use lib.Dec.{T, eqb, eqb→eq, not-T}
-use Rattle.search.specs.Truth.{T-and, and-T, either, clash, is-true, is-false, holds, eq-true}
+use Rattle.search.specs.Truth.{is-true, is-false, eq-true}
 use Rattle.search.specs.Every.{some, found-some, some-no}
 use Rattle.table.specs.Shape.{Shape, total}
 use Rattle.table.specs.Chain.{refuse-on, refuse-0}

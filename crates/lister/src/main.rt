@@ -1,7 +1,5 @@
 // Prints the order of the text table on standard input, or its cycle, or its refusal.
 use listing::list;
-ghost use Prim.Native.Nat.{_≤_};
-ghost use lib.ListN.{length};
 
 // How many bytes were read to the end of the input, or that it cannot be read.
 enum Input {

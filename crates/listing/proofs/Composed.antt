@@ -1,20 +1,20 @@
 -- The listing from its parts: a text read, its table ordered, the answer printed.
 use Prim.Native.Nat.{ℕ}
-use mathlib.Core.Path.{_≡_, refl, ap, sym, _∙_}
-use mathlib.Core.List.{List, _++_}
-use lib.ListN.{length, replicate}
+use mathlib.Core.Path.{_≡_, ap, sym, _∙_}
+use mathlib.Core.List.{List}
+use lib.ListN.{replicate}
 use lib.Seq.{take-at}
 use borrow.Author.Tests.{eq-eqb, ne-eqb}
 use Rattle.search.specs.Front.{fronted}
 use Rattle.table.specs.Packed.{part}
 use Rattle.table.specs.declared.Answer.{Answer}
-use Rattle.table.specs.Outcome.{Outcome, outcome}
-use Rattle.grammar.specs.Reading.{Reading, reading}
+use Rattle.table.specs.Outcome.{outcome}
+use Rattle.grammar.specs.Reading.{reading}
 use Rattle.reading.specs.Reads.{read-long}
 use Rattle.text.specs.declared.Answer.{Answer as Told}
 use Rattle.sorter.specs.Ordering.{ordering}
 use Rattle.sorter.specs.Answers.{ordering-long}
-use Rattle.printing.specs.Entries.{outcomeText, refusalText}
+use Rattle.printing.specs.Entries.{refusalText}
 use Rattle.printing.specs.Indexed.{outcomeOf}
 use Rattle.listing.specs.Listing.{listing}
 use Rattle.listing.proofs.Counted.{all-units, all-outputs, all-inputs}

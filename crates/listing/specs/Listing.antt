@@ -5,7 +5,7 @@ use mathlib.Core.List.{List}
 use lib.Dec.{eqb}
 use Rattle.grammar.specs.Quoted.{ascii}
 use Rattle.grammar.specs.Rows.{rows}
-use Rattle.grammar.specs.Reading.{Reading, reading}
+use Rattle.grammar.specs.Reading.{reading}
 use Rattle.grammar.specs.Opening.{linesOf}
 use Rattle.sorter.specs.Ordering.{ordering}
 use Rattle.printing.specs.Entries.{outcomeText, refusalText}

@@ -1,13 +1,12 @@
 -- The walk lists no call twice.
-use mathlib.Core.Path.{_≡_, refl, ap}
+use mathlib.Core.Path.{refl, ap}
 use mathlib.Core.Logic.{inl, inr}
-use mathlib.Core.Bool.{Bool, true, false, not, _||_, cond}
+use mathlib.Core.Bool.{Bool, true, false, not, cond}
 use mathlib.Core.List.{List, [], _∷_}
-use Prim.Native.Nat.{ℕ, zero, suc, _≤_, _<_}
+use Prim.Native.Nat.{ℕ, zero, suc}
 use native.Mathlib.Omega.{arith}
 use native.Mathlib.Decide.{decLt}
 use lib.Dec.{T, eqb, not-T}
-use lib.ListN.{length, getD}
 use Rattle.search.specs.Truth.{T-or, or-left, or-right, either, clash}
 use Rattle.orders.specs.Walk.{among, upto, lowestBefore, walk}
 use Rattle.orders.specs.Walked.{walk-met, walk-on, walk-lost}

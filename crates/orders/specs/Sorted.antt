@@ -1,19 +1,18 @@
 -- What the order's procedure gives: where it places all, the first order.
 use mathlib.Core.Path.{_≡_, refl, sym}
 use mathlib.Core.Logic.{inl, inr}
-use mathlib.Core.Bool.{Bool, true, false, not, _&&_}
+use mathlib.Core.Bool.{Bool, not}
 use mathlib.Core.List.{List, [], _∷_}
 use Prim.Native.Nat.{ℕ, zero, suc, _+_, _≤_, _<_}
 use native.Mathlib.Omega.{arith}
 use native.Mathlib.Decide.{decLt, decLe}
-use lib.Dec.{T, ltb}
-use lib.ListN.{length, getD}
+use lib.Dec.{T}
+use lib.ListN.{length}
 use Rattle.search.specs.Truth.{T-and, and-T, either, clash, fails, lt-true, lt-false}
 use Rattle.search.specs.Sets.{none, add}
-use Rattle.search.specs.Every.{some, some-no, some-found, found-some}
-use Rattle.search.specs.Least.{leastFrom, lowest-is}
+use Rattle.search.specs.Every.{some, some-no, found-some}
+use Rattle.search.specs.Least.{lowest-is}
 use Rattle.search.specs.Count.{count, count-none, count-add, count-full}
-use Rattle.orders.specs.Keeps.{Keeps}
 use Rattle.orders.specs.First.{NoLater, First}
 use Rattle.orders.specs.Follows.{Follows, keeps→follows, follows→keeps}
 use Rattle.orders.specs.Sort.{lacks, ready, nextCall, sort, placed}

@@ -1,8 +1,8 @@
 -- A cycle begun at another of its places is a cycle; begun at its lowest call, it begins with it.
-use mathlib.Core.Path.{_≡_, refl, sym, ap, _∙_}
+use mathlib.Core.Path.{_≡_, refl, sym, _∙_}
 use mathlib.Core.Logic.{_⊎_, inl, inr}
-use mathlib.Core.Bool.{Bool, not, _||_}
-use mathlib.Core.List.{List, [], _∷_, _++_}
+use mathlib.Core.Bool.{Bool}
+use mathlib.Core.List.{List, [], _∷_}
 use Prim.Native.Nat.{ℕ, zero, suc, _+_, _-_, _≤_, _<_}
 use native.Mathlib.Omega.{arith}
 use native.Mathlib.Decide.{ℕ-discrete, decLt, decLe}
@@ -10,7 +10,7 @@ use lib.Dec.{T, eqb, eqb→eq, eqb-refl}
 use lib.ListN.{length, getD, take, drop, length-append, length-take, length-drop, List·getD-append}
 use lib.Seq.{getD-take, getD-drop, getD-append-add}
 use Rattle.search.specs.Truth.{T-or, or-left, or-right, clash}
-use Rattle.search.specs.Least.{leastFrom, lowest-is}
+use Rattle.search.specs.Least.{lowest-is}
 use Rattle.orders.specs.Cycle.{Cycle}
 use Rattle.orders.specs.Walk.{among}
 use Rattle.orders.specs.Turn.{turn, lowestOf, lowestPlace}

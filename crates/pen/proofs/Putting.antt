@@ -1,17 +1,17 @@
 -- The loop that puts bytes: the first i of them stand in the buffer.
 use Prim.Native.Nat.{ℕ, _+_, _-_, _≤_, _<_}
-use mathlib.Core.Path.{_≡_, refl, sym, ap, _∙_}
-use mathlib.Core.Bool.{Bool, true, false}
+use mathlib.Core.Path.{_≡_, refl, sym, _∙_}
+use mathlib.Core.Bool.{true, false}
 use mathlib.Core.List.{List, [], _∷_, _++_}
 use native.Mathlib.Numerals.{add-one}
 use native.Mathlib.Omega.{arith}
-use lib.ListN.{length, take, drop, set, getD, length-set}
-use lib.Seq.{length-take-le, set-split, take-suc, take-all}
+use lib.ListN.{length, take, set, getD, length-set}
+use lib.Seq.{set-split, take-suc, take-all}
 use lib.Dec.{leb}
 use borrow.Author.Tests.{le-leb, lt-leb}
 use native.Mathlib.Decide.{decLe}
 use Rattle.pen.specs.Put.{over, fits, wrote, behind, Put}
-use Rattle.pen.specs.Chain.{Wrote, wrote-none, wrote-long, wrote-then}
+use Rattle.pen.specs.Chain.{Wrote, wrote-none, wrote-then}
 
 pub put-whole : {out : List ℕ} {at : ℕ} {s after : List ℕ} {k : ℕ} → Wrote out at s after k → Put out at s after k
 unfolding wrote behind fits

@@ -1,7 +1,7 @@
 // Writing into a lent buffer: bytes, one byte, a number. What does not fit is not written.
 ghost use mathlib.Core.Path.{_≡_};
 ghost use mathlib.Core.List.{_∷_, []};
-ghost use Prim.Native.Nat.{_+_, _≤_};
+ghost use Prim.Native.Nat.{_+_};
 ghost use lib.ListN.{length};
 ghost use lib.Dec.{leb};
 ghost use Rattle.pen.specs.Put.{Put};

@@ -1,38 +1,18 @@
 -- What each kind of call releases, in the terms of the code: the parts and counts that it has read.
-use mathlib.Core.Path.{_≡_, refl, sym, ap, _∙_}
-use mathlib.Core.Bool.{Bool, true, false, _&&_}
+use mathlib.Core.Path.{_≡_, sym, _∙_}
 use mathlib.Core.List.{List}
-use Prim.Native.Nat.{ℕ, _+_, _-_, _*_, _≤_, _<_}
+use Prim.Native.Nat.{ℕ, _+_, _-_, _≤_, _<_}
 use native.Mathlib.Omega.{arith}
 use native.Mathlib.Decide.{ℕ-discrete}
-use lib.Dec.{T, eqb, eqb-refl}
+use lib.Dec.{eqb, eqb-refl}
 use lib.ListN.{length, getD, set, length-set}
 use lib.Seq.{getD-set-same, getD-set-other}
-use Rattle.search.specs.Truth.{is-true, is-false, eq-true, eq-false}
+use Rattle.search.specs.Truth.{is-true, is-false, eq-false}
 use Rattle.search.specs.Count.{bit}
-use Rattle.table.specs.Packed.{
-  units,
-  outputs,
-  inputs,
-  feeds,
-  outputOwners,
-  inputOwners,
-  kinds,
-  sources,
-  pairs,
-  pairOutput,
-  shapeOf,
-}
-use Rattle.table.specs.Shape.{total}
+use Rattle.table.specs.Packed.{units, outputs, inputs, feeds, outputOwners, inputOwners, kinds, sources, pairs, shapeOf}
 use Rattle.table.specs.Sound.{Sound}
 use Rattle.table.specs.Checked.{few-calls}
-use Rattle.table.specs.Layout.{
-  long-output-owners,
-  long-input-owners,
-  long-kinds,
-  long-sources,
-  long-pairs,
-}
+use Rattle.table.specs.Layout.{long-output-owners, long-input-owners, long-sources}
 use Rattle.calls.specs.Number.{getNo, setNo}
 use Rattle.placing.specs.Less.{isKey, areKeys, isInput, nth, fed, hits, Less}
 use Rattle.placing.specs.Waiting.{only, stepsToGets, stepsToSets, into, ownStep}

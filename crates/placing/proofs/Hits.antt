@@ -1,5 +1,5 @@
 -- Laws of loops that lower or raise waiting counts.
-use mathlib.Core.Path.{_≡_, refl, sym, ap, _∙_}
+use mathlib.Core.Path.{_≡_, refl, sym, _∙_}
 use mathlib.Core.Logic.{_≢_}
 use mathlib.Core.Bool.{Bool, true, false, not, _&&_}
 use mathlib.Core.List.{List}
@@ -11,7 +11,7 @@ use lib.Dec.{T, eqb, eqb-refl}
 use lib.ListN.{length, getD, set, length-set}
 use lib.Seq.{getD-set-same, getD-set-other}
 use Rattle.search.specs.Truth.{and-T, is-true, is-false, eq-true, eq-false}
-use Rattle.search.specs.Count.{bit, bit-le, count, count-le}
+use Rattle.search.specs.Count.{bit, count}
 use Rattle.placing.specs.Less.{isKey, areKeys, hits, Less}
 
 module _ (q : ℕ → Bool) (at : ℕ → ℕ) where

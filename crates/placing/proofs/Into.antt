@@ -1,7 +1,6 @@
 -- Laws of the direct predecessors counted rule by rule: parts, bounds, and none exactly where none precedes.
-use mathlib.Core.Path.{_≡_, refl, sym, ap, _∙_}
-use mathlib.Core.Logic.{inl, inr}
-use mathlib.Core.Bool.{Bool, true, false, not, _&&_, and-comm, and-true}
+use mathlib.Core.Path.{_≡_, refl, sym, ap}
+use mathlib.Core.Bool.{Bool, true, not, _&&_, and-comm, and-true}
 use Prim.Native.Nat.{ℕ, _+_, _≤_, _<_}
 use native.Mathlib.Omega.{arith}
 use lib.Dec.{T, eqb, eqb→eq, eqb-refl}
@@ -13,7 +12,7 @@ use Rattle.calls.specs.Number.{getNo, setNo}
 use Rattle.calls.specs.Precedence.{Precedes, step-get, get-set, set-get, set-step, step-set, precedes}
 use Rattle.calls.specs.Neighbours.{precedes-iff, calls-only}
 use Rattle.placing.specs.Less.{hits}
-use Rattle.placing.specs.Waiting.{only, stepsToGets, getsToSets, setsToGets, setsToSteps, stepsToSets, into, ownStep}
+use Rattle.placing.specs.Waiting.{only, stepsToGets, stepsToSets, into, ownStep}
 use Rattle.placing.proofs.Parts.{bit-and, hits-part, hits-same, no-hits, hits-no, hits-le, row-once, hit-at, part-of}
 
 module _ (s : Shape) where

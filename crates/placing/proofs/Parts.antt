@@ -1,13 +1,12 @@
 -- Laws of counted hits: none, one, and the hits of a test in two parts.
-use mathlib.Core.Path.{_≡_, refl, sym, ap, _∙_}
-use mathlib.Core.Logic.{_≢_, inl, inr}
+use mathlib.Core.Path.{_≡_, refl, ap}
 use mathlib.Core.Bool.{Bool, true, false, not, _&&_, and-true, and-false}
 use Prim.Native.Nat.{ℕ, zero, suc, _+_, _≤_, _<_}
 use native.Mathlib.Omega.{arith}
 use native.Mathlib.Decide.{ℕ-discrete}
 use lib.Dec.{T, eqb, eqb→eq, not-T}
-use Rattle.search.specs.Truth.{T-and, and-T, either, clash, is-true, is-false, eq-true, eq-false}
-use Rattle.search.specs.Sets.{add, add-self, add-other}
+use Rattle.search.specs.Truth.{T-and, and-T, clash, is-true, is-false, eq-true, eq-false}
+use Rattle.search.specs.Sets.{add}
 use Rattle.search.specs.Count.{bit, bit-le, count, count-le, count-same, count-none, count-zero}
 use Rattle.placing.specs.Less.{nth, hits}
 use Rattle.placing.specs.Waiting.{only}

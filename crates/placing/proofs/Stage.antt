@@ -1,43 +1,32 @@
 -- One call placed after another: what the loop of the order's procedure keeps.
 use mathlib.Core.Path.{_≡_, refl, sym, ap, subst, _∙_, fun-ext}
 use mathlib.Core.Logic.{_≢_, inl, inr}
-use mathlib.Core.Bool.{Bool, true, false, not, _&&_, _||_}
+use mathlib.Core.Bool.{Bool, true, false, not, _||_}
 use mathlib.Core.List.{List, [], _∷_, _++_}
-use Prim.Native.Nat.{ℕ, zero, suc, _+_, _-_, _≤_, _<_}
+use Prim.Native.Nat.{ℕ, suc, _+_, _-_, _≤_, _<_}
 use native.Mathlib.Numerals.{add-one}
 use native.Mathlib.Omega.{arith}
 use native.Mathlib.Decide.{ℕ-discrete, decLt}
-use lib.Dec.{T, eqb, eqb→eq, eqb-refl}
-use lib.ListN.{
-  length,
-  getD,
-  set,
-  take,
-  replicate,
-  length-set,
-  length-replicate,
-  getD-replicate,
-  List·getD-eq-default,
-}
+use lib.Dec.{T, eqb, eqb→eq}
+use lib.ListN.{length, getD, set, take, replicate, length-set, length-replicate, getD-replicate, List·getD-eq-default}
 use lib.Seq.{take-suc-set, getD-set-same, getD-set-other}
-use Rattle.search.specs.Truth.{T-and, and-T, either, clash, is-true, is-false, eq-true, eq-false, same-test, not-not}
+use Rattle.search.specs.Truth.{either, clash, is-true, is-false, eq-true, same-test}
 use Rattle.search.specs.Sets.{none, add, add-self, add-other, add-cases, add-more}
-use Rattle.search.specs.Every.{some, some-found}
 use Rattle.search.specs.Least.{leastFrom, lowest-is, lowest-one}
 use Rattle.search.specs.Front.{fronted, Fronting, fronting-starts, fronting-on, fronting-ends}
 use Rattle.table.specs.Shape.{Shape, total, Wired}
-use Rattle.table.specs.Packed.{inputs, feeds, shapeOf}
+use Rattle.table.specs.Packed.{shapeOf}
 use Rattle.table.specs.Sound.{Sound}
 use Rattle.table.specs.Checked.{few-calls}
-use Rattle.calls.specs.Precedence.{Precedes, precedes}
+use Rattle.calls.specs.Precedence.{precedes}
 use Rattle.calls.specs.Neighbours.{precedes-iff, calls-only, not-self}
-use Rattle.orders.specs.Sort.{lacks, ready, nextCall, sort, placed}
+use Rattle.orders.specs.Sort.{ready, nextCall, sort, placed}
 use Rattle.orders.specs.Sorted.{Ready→ready, ready→Ready, next-is, sort-step, sort-stop, sort-none}
 use Rattle.orders.specs.Walk.{among}
 use Rattle.placing.specs.Less.{isKey, Less}
 use Rattle.placing.specs.Waiting.{only, into, waits, Waiting}
 use Rattle.placing.specs.Placing.{callCount, placedOf}
-use Rattle.placing.proofs.Into.{into-part, into-le, into-none, none-into, into-past}
+use Rattle.placing.proofs.Into.{into-part, into-none, none-into, into-past}
 
 -- ---- the calls of a list, one more at its end
 

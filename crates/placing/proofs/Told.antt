@@ -1,9 +1,8 @@
 -- From a call that the code has told apart back to its number.
-use mathlib.Core.Path.{_≡_, sym, ap, _∙_}
+use mathlib.Core.Path.{_≡_, ap, _∙_}
 use Prim.Native.Nat.{ℕ, _<_}
 use native.Mathlib.Omega.{arith}
 use Rattle.table.specs.Shape.{Shape, total}
-use Rattle.calls.specs.declared.Call.{Call}
 use Rattle.calls.specs.declared.Call.the-variants.{Step, Get, Set, NoCall}
 use Rattle.calls.specs.Number.{callOf, getNo, setNo}
 use Rattle.calls.specs.Numbers.{is-step, is-get, is-set, View, at-step, at-get, at-set, view}

@@ -5,7 +5,6 @@ use lib.ListN.{length}
 use Rattle.search.specs.Front.{fronted}
 use Rattle.table.specs.declared.Answer.{Answer}
 use Rattle.search.specs.Determined.{Determined, same-answer}
-use Rattle.table.specs.Outcome.{Outcome}
 use Rattle.placing.specs.Placing.{placing}
 
 pub place-all-determined : (t : List ℕ) (room : ℕ) → Determined Answer (placing t room .answer)

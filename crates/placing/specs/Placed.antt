@@ -1,16 +1,13 @@
 -- What placing answers, case by case.
-use mathlib.Core.Path.{_≡_, refl, sym, ap, _∙_}
+use mathlib.Core.Path.{_≡_}
 use mathlib.Core.List.{List, []}
 use Prim.Native.Nat.{ℕ, _≤_, _<_}
-use native.Mathlib.Omega.{arith}
-use lib.Dec.{eqb, leb}
+use lib.Dec.{eqb}
 use lib.ListN.{length}
 use borrow.Author.Tests.{le-leb, lt-leb}
-use Rattle.search.specs.Truth.{is-true, is-false, eq-true, eq-false}
-use Rattle.search.specs.Front.{fronted}
-use Rattle.table.specs.declared.Answer.{Answer}
+use Rattle.search.specs.Truth.{is-false, eq-false}
 use Rattle.table.specs.Check.{refusal, checked}
-use Rattle.table.specs.Outcome.{Outcome, outcome}
+use Rattle.table.specs.Outcome.{outcome}
 use Rattle.placing.specs.Placing.{callCount, placedOf, placing}
 
 module _ (t : List ℕ) (room : ℕ) where

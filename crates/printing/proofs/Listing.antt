@@ -1,8 +1,8 @@
 -- The loops over the calls: what is printed of those from place i on is to come.
-use Prim.Native.Nat.{ℕ, suc, _+_, _-_, _<_, _≤_}
+use Prim.Native.Nat.{ℕ, _+_, _-_, _<_, _≤_}
 use mathlib.Core.Path.{_≡_, refl, ap, sym, _∙_}
 use mathlib.Core.Bool.{true, false}
-use mathlib.Core.List.{List, [], _∷_, _++_, append-assoc, append-nil}
+use mathlib.Core.List.{List, [], _++_, append-assoc, append-nil}
 use native.Mathlib.Numerals.{add-one}
 use native.Mathlib.Omega.{arith}
 use lib.ListN.{length, getD, drop, length-append, drop-of-length-le}
@@ -10,7 +10,7 @@ use lib.Seq.{drop-cons}
 use lib.Dec.{leb}
 use borrow.Author.Tests.{le-leb, lt-leb}
 use Rattle.pen.specs.Chain.{Wrote, wrote-none, wrote-then, wrote-long}
-use Rattle.printing.specs.Entries.{entry, entries}
+use Rattle.printing.specs.Entries.{entries}
 use Rattle.printing.specs.Indexed.{entryOf, entriesOf}
 
 module _ (t cs : List ℕ) (i : ℕ) where

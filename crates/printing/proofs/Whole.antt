@@ -1,10 +1,10 @@
 -- A whole listing: its first line, room for all of it, and what is answered.
 use Prim.Native.Nat.{ℕ, _+_, _-_, _<_, _≤_}
-use mathlib.Core.Path.{_≡_, refl, ap, sym, _∙_}
+use mathlib.Core.Path.{_≡_, ap, sym}
 use mathlib.Core.Bool.{true, false}
 use mathlib.Core.List.{List, [], _∷_, _++_, append-assoc}
 use native.Mathlib.Omega.{arith}
-use lib.ListN.{length, take, drop, length-append, length-take}
+use lib.ListN.{length, take, drop, length-append}
 use lib.Seq.{take-at}
 use lib.Dec.{leb}
 use borrow.Author.Tests.{lt-ltb, le-ltb, leb-true, leb-false, eq-eqb, ne-eqb}
@@ -13,7 +13,7 @@ use Rattle.grammar.specs.Quoted.{ascii}
 use Rattle.grammar.specs.Words.{tab, lf}
 use Rattle.table.specs.Packed.{part}
 use Rattle.table.specs.declared.Answer.{Answer}
-use Rattle.table.specs.Outcome.{Outcome, outcome}
+use Rattle.table.specs.Outcome.{outcome}
 use Rattle.declarations.specs.Noted.{beginsFrom, Noted}
 use Rattle.pen.specs.Decimal.{decimal}
 use Rattle.pen.specs.Chain.{Wrote, wrote-then, wrote-long, wrote-front}

@@ -1,11 +1,9 @@
 -- Any two permitted answers are equal, and any two buffers that are left.
-use mathlib.Core.Path.{_≡_}
 use mathlib.Core.List.{List}
 use Prim.Native.Nat.{ℕ}
 use lib.ListN.{length}
 use Rattle.search.specs.Front.{fronted}
 use Rattle.table.specs.declared.Answer.{Answer}
-use Rattle.table.specs.Outcome.{Outcome}
 use Rattle.search.specs.Determined.{Determined, same-answer}
 use Rattle.printing.specs.Listed.{listed}
 

@@ -6,7 +6,7 @@ use calls::number::call_in;
 use fields::fields_at;
 ghost use mathlib.Core.Path.{_≡_};
 ghost use Prim.Native.Nat.{_+_, _<_, _≤_};
-ghost use lib.ListN.{length, getD};
+ghost use lib.ListN.{length};
 ghost use Rattle.grammar.specs.Rows.{rowAt, word};
 ghost use Rattle.pen.specs.Chain.{Wrote};
 ghost use Rattle.printing.specs.Places.{lineAt, textOf};

@@ -1,5 +1,5 @@
 -- A packed table by its parts: where each part stands.
-use Prim.Native.Nat.{ℕ, zero, suc, _+_, _*_, _<_, _≤_}
+use Prim.Native.Nat.{ℕ, zero, suc, _+_, _*_, _<_}
 use mathlib.Core.Path.{_≡_, refl, ap, sym, _∙_}
 use mathlib.Core.List.{List, [], _∷_, _++_, map}
 use native.Mathlib.Omega.{arith}
@@ -7,7 +7,7 @@ use lib.ListN.{length, getD, take, drop, length-append}
 use lib.Seq.{take-at, drop-at, drop-drop}
 use Rattle.grammar.specs.Draft.{Feed}
 use Rattle.grammar.specs.Reading.{pairs as feedPairs}
-use Rattle.table.specs.Packed.{units, outputs, inputs, feeds, outputOwners, inputOwners, kinds, sources, pairs, asked}
+use Rattle.table.specs.Packed.{outputs, inputs, feeds, outputOwners, inputOwners, kinds, sources, pairs, asked}
 use Rattle.reading.specs.Proper.{noFeed}
 
 pub map-in : {A B : Type 0} (f : A → B) (e : A) (z : B) (xs : List A) (i : ℕ) → i < length xs → getD (map f xs) i z ≡ f (getD xs i e)

@@ -1,7 +1,7 @@
 -- Laws of the two walks over a text, and of the byte test.
 use Prim.Native.Nat.{ℕ, zero, suc, _+_, _≤_, _<_}
 use mathlib.Core.Path.{_≡_, refl, sym, ap, _∙_}
-use mathlib.Core.Bool.{Bool, true, false, not, _&&_, _||_, cond}
+use mathlib.Core.Bool.{Bool, true, false, not, _||_, cond}
 use mathlib.Core.List.{List, [], _∷_, _++_}
 use native.Mathlib.Numerals.{add-one}
 use native.Mathlib.Omega.{arith}
@@ -10,7 +10,7 @@ use lib.Seq.{take-suc}
 use lib.Dec.{eqb, leb}
 use borrow.Author.Tests.{eq-eqb, ne-eqb, le-leb, lt-leb}
 use Rattle.search.specs.Least.{leastFrom}
-use Rattle.grammar.specs.Words.{lf, tab, allowed}
+use Rattle.grammar.specs.Words.{lf, allowed}
 use Rattle.grammar.specs.Rows.{times, firstBad}
 use Rattle.grammar.specs.Places.{place-least}
 

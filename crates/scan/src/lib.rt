@@ -1,6 +1,5 @@
 // Looking over a whole text: its first byte that is not allowed, and on which line a byte stands.
 ghost use mathlib.Core.Path.{_≡_};
-ghost use Prim.Native.Nat.{suc};
 ghost use Rattle.grammar.specs.Words.{lf, allowed};
 ghost use Rattle.grammar.specs.Rows.{times, firstBad};
 

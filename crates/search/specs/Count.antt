@@ -1,6 +1,5 @@
 -- How many numbers below a bound pass a test.
 use mathlib.Core.Path.{_≡_, refl}
-use mathlib.Core.Logic.{_≢_}
 use mathlib.Core.Bool.{Bool, true, false, not}
 use Prim.Native.Nat.{ℕ, zero, suc, _+_, _≤_, _<_}
 use native.Mathlib.Omega.{arith}

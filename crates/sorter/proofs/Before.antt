@@ -1,58 +1,22 @@
 -- The lowest remaining direct predecessor of each kind of call.
-use mathlib.Core.Path.{_≡_, refl, sym, ap, subst, _∙_}
+use mathlib.Core.Path.{_≡_, refl, sym, subst, _∙_}
 use mathlib.Core.Logic.{inl, inr}
 use mathlib.Core.Bool.{Bool, true, false, not, _&&_, cond, and-false}
 use mathlib.Core.List.{List}
-use Prim.Native.Nat.{ℕ, zero, suc, _+_, _≤_, _<_}
+use Prim.Native.Nat.{ℕ, _+_, _≤_, _<_}
 use native.Mathlib.Omega.{arith}
-use native.Mathlib.Decide.{ℕ-discrete, decLt, decLe}
+use native.Mathlib.Decide.{ℕ-discrete, decLe}
 use lib.Dec.{T, eqb, ltb, eqb→eq, ltb→lt, lt→ltb, not-T}
 use lib.ListN.{length, getD}
-use Rattle.search.specs.Truth.{
-  T-and,
-  and-T,
-  either,
-  clash,
-  is-true,
-  is-false,
-  not-not,
-  eq-true,
-  eq-false,
-  lt-true,
-  lt-false,
-}
-use Rattle.search.specs.Least.{leastFrom, Lowest, lowest-is, lowest-one}
+use Rattle.search.specs.Truth.{T-and, and-T, either, clash, is-true, is-false, eq-true, eq-false, lt-true, lt-false}
+use Rattle.search.specs.Least.{leastFrom, lowest-is, lowest-one}
 use Rattle.table.specs.Shape.{Shape, total, Wired}
 use Rattle.calls.specs.Number.{getNo, setNo}
 use Rattle.calls.specs.Precedence.{feedsTo, hasKind, precedes}
-use Rattle.calls.specs.Neighbours.{
-  feeds-found,
-  found-feeds,
-  kind-found,
-  found-kind,
-  step-get-holds,
-  get-set-holds,
-  set-get-holds,
-  set-step-holds,
-  step-set-holds,
-  before-step,
-  before-get,
-  before-set,
-}
+use Rattle.calls.specs.Neighbours.{feeds-found, found-feeds, kind-found, found-kind, step-get-holds, get-set-holds, set-get-holds, set-step-holds, step-set-holds, before-step, before-get, before-set}
 use Rattle.orders.specs.Sort.{lacks}
 use Rattle.orders.specs.Walk.{lowestBefore}
-use Rattle.table.specs.Packed.{
-  units,
-  outputs,
-  inputs,
-  feeds,
-  inputOwners,
-  kinds,
-  pairs,
-  pairInput,
-  pairOutput,
-  shapeOf,
-}
+use Rattle.table.specs.Packed.{units, outputs, inputs, feeds, inputOwners, kinds, pairs, pairInput, pairOutput, shapeOf}
 use Rattle.table.specs.Sound.{Sound}
 use Rattle.table.specs.Layout.{long-input-owners}
 use Rattle.placing.specs.Less.{isKey, areKeys}

@@ -1,6 +1,6 @@
 -- The order's answer joined from what was placed.
 use mathlib.Core.Path.{_≡_, refl, sym, ap, _∙_}
-use mathlib.Core.List.{List, [], _∷_, _++_, append-nil}
+use mathlib.Core.List.{List, [], _∷_, append-nil}
 use Prim.Native.Nat.{ℕ, _≤_, _<_}
 use native.Mathlib.Omega.{arith}
 use native.Mathlib.Decide.{ℕ-discrete}
@@ -18,14 +18,7 @@ use Rattle.table.specs.Outcome.{Outcome, outcome}
 use Rattle.placing.specs.Placing.{callCount, placedOf, placing}
 use Rattle.placing.specs.Placed.{placing-unsound, placing-done}
 use Rattle.sorter.specs.Ordering.{shownOf, ordering}
-use Rattle.sorter.specs.Answers.{
-  ordering-short,
-  ordering-settled,
-  settled-all,
-  settled-some,
-  stopped-none,
-  stopped-shown,
-}
+use Rattle.sorter.specs.Answers.{ordering-short, ordering-settled, settled-all, settled-some, stopped-none, stopped-shown}
 
 -- what was placed, where the table is sound
 pub placing-is : (t : List ℕ) → refusal t ≡ 0 → placing t 224 ≡ outcome 0 (length (placedOf t)) (placedOf t)

@@ -1,17 +1,15 @@
 -- The cycle that the walk met, as a part of its path; and what it is turned to.
-use mathlib.Core.Path.{_≡_, refl, sym, ap, subst, _∙_}
-use mathlib.Core.Logic.{inl, inr}
-use mathlib.Core.Bool.{Bool, true, false, not, _||_, cond}
-use mathlib.Core.List.{List, [], _∷_, _++_, append-nil}
+use mathlib.Core.Path.{_≡_, refl, sym, ap, _∙_}
+use mathlib.Core.Bool.{Bool, not, cond}
+use mathlib.Core.List.{List, [], _∷_}
 use Prim.Native.Nat.{ℕ, zero, suc, _+_, _-_, _≤_, _<_}
-use native.Mathlib.Numerals.{add-one}
 use native.Mathlib.Omega.{arith}
 use native.Mathlib.Decide.{ℕ-discrete, decLt}
-use lib.Dec.{T, eqb, eqb→eq, ltb, not-T}
-use lib.ListN.{length, getD, take, drop, length-take, length-drop}
+use lib.Dec.{T, eqb, eqb→eq, not-T}
+use lib.ListN.{length, getD, take, drop, length-drop}
 use lib.Seq.{length-take-le, getD-take, take-all}
-use Rattle.search.specs.Truth.{T-or, clash, is-true, is-false, eq-true, lt-true, lt-false}
-use Rattle.search.specs.Least.{leastFrom, Lowest, lowest-is, lowest-one}
+use Rattle.search.specs.Truth.{clash, is-true, is-false, eq-true, lt-true, lt-false}
+use Rattle.search.specs.Least.{leastFrom, lowest-is}
 use Rattle.table.specs.Packed.{shapeOf}
 use Rattle.calls.specs.Precedence.{precedes}
 use Rattle.orders.specs.Walk.{among, upto, met}

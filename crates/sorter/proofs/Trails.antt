@@ -1,21 +1,21 @@
 -- The loops of the backward walk: marks as sets, and a path that is filled from its end.
 use mathlib.Core.Path.{_≡_, refl, sym, ap, subst, _∙_, fun-ext}
-use mathlib.Core.Bool.{Bool, true, false, not, cond}
-use mathlib.Core.List.{List, [], _∷_, _++_}
-use Prim.Native.Nat.{ℕ, zero, suc, _+_, _-_, _≤_, _<_}
+use mathlib.Core.Bool.{Bool, true, false, not}
+use mathlib.Core.List.{List, [], _∷_}
+use Prim.Native.Nat.{ℕ, suc, _+_, _-_, _≤_, _<_}
 use native.Mathlib.Numerals.{add-one}
 use native.Mathlib.Omega.{arith}
 use native.Mathlib.Decide.{ℕ-discrete}
-use lib.Dec.{T, eqb, ltb}
+use lib.Dec.{T, eqb}
 use lib.ListN.{length, getD, set, take, drop, length-set, drop-of-length-le}
 use lib.Seq.{take-suc, take-all, drop-cons, drop-set-lt, getD-set-same, getD-set-other}
-use Rattle.search.specs.Truth.{is-true, is-false, eq-true, eq-false, lt-true, lt-false}
-use Rattle.search.specs.Sets.{none, add, add-self, add-other}
+use Rattle.search.specs.Truth.{is-true, is-false, eq-false, lt-true, lt-false}
+use Rattle.search.specs.Sets.{none, add, add-self}
 use Rattle.search.specs.Count.{count, count-le, count-none, count-add}
 use Rattle.search.specs.Least.{leastFrom}
 use Rattle.table.specs.Packed.{shapeOf}
 use Rattle.calls.specs.Precedence.{precedes}
-use Rattle.orders.specs.Walk.{among, upto, lowestBefore, lowestLeft, walk, met}
+use Rattle.orders.specs.Walk.{among, lowestBefore, lowestLeft, walk, met}
 use Rattle.orders.specs.Remains.{cons-calls}
 use Rattle.orders.specs.Walked.{walk-met, walk-on, walk-lost}
 use Rattle.placing.specs.Placing.{callCount}

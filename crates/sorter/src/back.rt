@@ -1,7 +1,7 @@
 // One step of the backward walk: the lowest remaining direct predecessor of a call, by its kind.
 ghost use mathlib.Core.Path.{_≡_};
 ghost use mathlib.Core.Bool.{not, _&&_};
-ghost use Prim.Native.Nat.{ℕ, _+_, _*_, _≤_, _<_};
+ghost use Prim.Native.Nat.{_+_, _*_, _≤_, _<_};
 ghost use lib.ListN.{length};
 ghost use Rattle.search.specs.Least.{leastFrom};
 ghost use Rattle.table.specs.Packed.{units, outputs, inputs, shapeOf};

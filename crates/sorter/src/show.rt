@@ -1,7 +1,7 @@
 // The cycle that the walk met, written from its lowest call on.
 ghost use mathlib.Core.Path.{_≡_};
-ghost use Prim.Native.Nat.{ℕ, _≤_, _<_};
-ghost use lib.ListN.{length, getD};
+ghost use Prim.Native.Nat.{_≤_, _<_};
+ghost use lib.ListN.{length};
 ghost use Rattle.search.specs.Least.{leastFrom};
 ghost use Rattle.search.specs.Front.{fronted};
 ghost use Rattle.orders.specs.Turn.{turn, lowestOf};

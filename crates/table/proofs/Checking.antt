@@ -1,28 +1,17 @@
 -- One law for each answer of the functions that check a table.
-use Prim.Native.Nat.{ℕ, zero, suc, _+_, _-_, _*_, _<_, _≤_}
-use mathlib.Core.Path.{_≡_, refl, ap, sym, _∙_}
-use mathlib.Core.Bool.{Bool, true, false, not, _&&_, cond}
+use Prim.Native.Nat.{ℕ, suc, _+_, _-_, _*_, _<_, _≤_}
+use mathlib.Core.Path.{_≡_, sym, _∙_}
+use mathlib.Core.Bool.{Bool, true, false, not}
 use mathlib.Core.List.{List}
 use native.Mathlib.Numerals.{add-one}
 use native.Mathlib.Omega.{arith}
 use lib.ListN.{length, getD}
 use lib.Dec.{T, eqb, ltb, leb}
 use borrow.Author.Tests.{lt-ltb, le-ltb, le-leb, lt-leb, eq-eqb, ne-eqb}
-use Rattle.search.specs.Truth.{is-true, is-false}
 use Rattle.search.specs.Every.{every-yes, every-no, some-yes, some-no}
 use Rattle.table.specs.declared.Answer.{Answer}
 use Rattle.table.specs.Packed.{units, outputs, inputs, feeds, asked, pairInput, pairOutput}
-use Rattle.table.specs.Check.{
-  refuse,
-  countsIn,
-  allBelow,
-  isPair,
-  feedKnown,
-  feedAgain,
-  feedsFrom,
-  refusal,
-  checked,
-}
+use Rattle.table.specs.Check.{refuse, countsIn, allBelow, isPair, feedKnown, feedAgain, feedsFrom, refusal, checked}
 
 -- ---- the counts
 

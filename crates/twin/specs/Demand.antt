@@ -1,11 +1,11 @@
 -- Demand 3: every order whose verdict is a pass ends at the one solution of the table's equations.
 -- No proof needs joined ports to be equal at the start, so it is no premise here: they are equal at the end whatever was.
-use mathlib.Core.Path.{_≡_, refl, sym, ap, ap₂, _∙_}
+use mathlib.Core.Path.{_≡_, sym, ap, ap₂, _∙_}
 use mathlib.Core.List.{List}
 use Prim.Native.Nat.{ℕ, suc, _<_}
 use native.Mathlib.Omega.{arith}
 use lib.ListN.{length, getD}
-use Rattle.table.specs.Shape.{Shape, total, Wired}
+use Rattle.table.specs.Shape.{total, Wired}
 use Rattle.table.specs.Packed.{shapeOf}
 use Rattle.table.specs.Check.{refusal}
 use Rattle.table.specs.Checked.{passed-sound}

@@ -7,7 +7,7 @@ use lib.Dec.{eqb}
 use Rattle.table.specs.Shape.{Shape, total}
 use Rattle.calls.specs.Number.{stepNo, getNo, setNo}
 use Rattle.twin.specs.Rules.{ofUnit, feeding, Rules}
-use Rattle.twin.specs.Run.{Held, World}
+use Rattle.twin.specs.Run.{World}
 
 module _ {Val : Type 0} (s : Shape) (m : Rules Val) where
   pub record Solves (old new : ℕ → Val) : Type 0 where

@@ -1,47 +1,16 @@
 -- Demand 3 is not empty: on table A a passed order's end is computed, and refused orders end elsewhere.
 use mathlib.Core.Path.{_≡_, refl, ap}
-use mathlib.Core.Bool.{cond}
 use mathlib.Core.List.{List, [], _∷_}
-use Prim.Native.Nat.{ℕ, _<_}
+use Prim.Native.Nat.{ℕ}
 use native.Mathlib.Omega.{arith}
 use lib.ListN.{getD}
 use lib.IntN.{ℤ, pos, natAbs, _+ℤ_}
 use Rattle.search.specs.Every.{every, some}
-use Rattle.table.specs.Packed.{
-  units,
-  outputs,
-  inputs,
-  feeds,
-  outputOwners,
-  inputOwners,
-  kinds,
-  sources,
-  pairs,
-  asked,
-  shapeOf,
-}
-use Rattle.table.specs.Check.{
-  refuse,
-  countsIn,
-  allBelow,
-  isPair,
-  feedKnown,
-  feedAgain,
-  feedsFrom,
-  wiring,
-  refusal,
-}
+use Rattle.table.specs.Packed.{units, outputs, inputs, feeds, outputOwners, inputOwners, kinds, sources, pairs, asked, shapeOf}
+use Rattle.table.specs.Check.{refuse, countsIn, allBelow, isPair, feedKnown, feedAgain, feedsFrom, wiring, refusal}
 use Rattle.calls.specs.Number.{callIn}
 use Rattle.calls.specs.Precedence.{feedsTo, hasKind}
-use Rattle.judging.specs.Conditions.{
-  early,
-  unset,
-  unstepped,
-  unfed,
-  ungot,
-  refusalOf,
-  refusalAt,
-}
+use Rattle.judging.specs.Conditions.{early, unset, unstepped, unfed, ungot, refusalOf, refusalAt}
 use Rattle.judging.specs.Verdict.{answer, atEnd, verdictFrom, verdictOf}
 use Rattle.twin.specs.Rules.{pick, Rules}
 use Rattle.twin.specs.Run.{Held, World, run}

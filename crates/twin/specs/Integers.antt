@@ -8,17 +8,9 @@ use Rattle.table.specs.Shape.{total}
 use Rattle.table.specs.Packed.{shapeOf}
 use Rattle.judging.specs.Verdict.{verdictOf}
 use Rattle.twin.specs.Rules.{Rules}
-use Rattle.twin.specs.Run.{Held, World, run}
+use Rattle.twin.specs.Run.{World, run}
 use Rattle.twin.specs.Equations.{Solves, AtTime, Joined}
-use Rattle.twin.specs.Demand.{
-  values,
-  run-solves,
-  run-single,
-  run-later,
-  moved-once as one-place,
-  run-joined,
-  runs-alike,
-}
+use Rattle.twin.specs.Demand.{values, run-solves, run-single, run-later, moved-once as one-place, run-joined, runs-alike}
 
 -- how the run of an order ends that was started at time n
 pub record Ends (t : List ℕ) (m : Rules ℤ) (order : List ℕ) (w : World ℤ) (n : ℕ) : Type 0 where

@@ -1,14 +1,13 @@
 -- What carries demand 3: between two calls the calls done hold new values and the others old ones.
-use mathlib.Core.Path.{_≡_, refl, sym, ap, ap₂, subst, _∙_}
-use mathlib.Core.Logic.{_≢_, inl, inr}
+use mathlib.Core.Path.{_≡_, refl, sym, ap, ap₂, _∙_}
+use mathlib.Core.Logic.{_≢_}
 use mathlib.Core.Bool.{Bool, true, false, not, cond}
-use mathlib.Core.List.{List, [], _∷_}
+use mathlib.Core.List.{List, _∷_}
 use Prim.Native.Nat.{ℕ, zero, suc, _+_, _≤_, _<_}
 use native.Mathlib.Omega.{arith}
 use native.Mathlib.Decide.{ℕ-discrete}
-use lib.Dec.{T, eqb, eqb→eq, eqb-refl, not-T}
-use Rattle.search.specs.Truth.{clash, is-true, is-false, eq-true, eq-false}
-use Rattle.search.specs.Sets.{none, add, add-self, add-more, add-cases, add-not}
+use lib.Dec.{T, eqb, eqb→eq, eqb-refl}
+use Rattle.search.specs.Truth.{is-true, is-false, eq-true, eq-false}
 use Rattle.table.specs.Shape.{Shape, total, Wired}
 use Rattle.calls.specs.declared.Call.{Call}
 use Rattle.calls.specs.declared.Call.the-variants.{Step, Get, Set, NoCall}
@@ -16,11 +15,10 @@ use Rattle.calls.specs.Number.{callOf, stepNo, getNo, setNo}
 use Rattle.calls.specs.Numbers.{is-step, is-get, is-set, View, at-step, at-get, at-set, view}
 use Rattle.calls.specs.Precedence.{feedsTo}
 use Rattle.calls.specs.Neighbours.{feeds-found}
-use Rattle.judging.specs.Passes.{Allows, Meets, Passes}
+use Rattle.judging.specs.Passes.{Allows, Meets}
 use Rattle.judging.specs.Met.{meets-call}
-use Rattle.judging.specs.Judged.{passes-head, passes-tail}
 use Rattle.twin.specs.Rules.{pick, ofUnit, feeding, Rules}
-use Rattle.twin.specs.Run.{Held, World, moved, acts, run}
+use Rattle.twin.specs.Run.{World, moved, acts}
 use Rattle.twin.specs.Equations.{Solves}
 
 pub pick-same : {Val : Type 0} (q : ℕ → Bool) (n k : ℕ) (f g : ℕ → Val)

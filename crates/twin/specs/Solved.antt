@@ -16,7 +16,7 @@ use Rattle.judging.specs.Passes.{Passes}
 use Rattle.judging.specs.Met.{meets-call}
 use Rattle.judging.specs.Judged.{passes-head, passes-tail}
 use Rattle.twin.specs.Rules.{Rules}
-use Rattle.twin.specs.Run.{Held, World, run}
+use Rattle.twin.specs.Run.{World, run}
 use Rattle.twin.specs.Equations.{Solves}
 use Rattle.twin.specs.Midway.{Midway, Holds, gives, next, next-self, next-other, solves→holds, holds-one, gives-holds}
 

@@ -1,6 +1,5 @@
 use Rattle.calls.proofs.number.call_in.Statement.{statement}
 use Rattle.calls.proofs.number.call_in.Tie as tie
-use borrow.Author.Needs.{needs}
 use mathlib.Core.Path.{sym}
 use Rattle.calls.specs.Numbers.{call-step, call-get, call-set, call-none}
 

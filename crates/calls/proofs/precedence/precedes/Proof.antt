@@ -1,7 +1,7 @@
 use borrow.Author.Needs.{needs}
 use Rattle.calls.proofs.precedence.precedes.Statement.{statement}
 use Rattle.calls.proofs.precedence.precedes.Tie as tie
-use mathlib.Core.Path.{sym, _∙_}
+use mathlib.Core.Path.{_∙_}
 use Rattle.calls.specs.Precedence.{before, precedes}
 use Rattle.calls.proofs.Laws.{by-calls}
 

@@ -1,7 +1,7 @@
 use borrow.Author.Needs.{needs}
 use Rattle.calls.proofs.precedence.step_before.Statement.{statement}
 use Rattle.calls.proofs.precedence.step_before.Tie as tie
-use mathlib.Core.Path.{ap, _∙_}
+use mathlib.Core.Path.{ap}
 use lib.Dec.{eqb}
 use Rattle.calls.specs.Precedence.{byKind, before}
 use Rattle.calls.proofs.Laws.{byte-of}

@@ -1,7 +1,6 @@
 -- nothing is marked
 use Rattle.judge.proofs.Run.new.Statement.{statement}
 use Rattle.judge.proofs.Run.new.Tie as tie
-use borrow.Author.Needs.{needs}
 use mathlib.Core.Path.{refl}
 use Rattle.judge.specs.Taken.{fresh}
 

@@ -2,7 +2,6 @@
 use borrow.Author.Needs.{needs}
 use Rattle.sorter.proofs.order.order.Statement.{statement}
 use Rattle.sorter.proofs.order.order.Tie as tie
-use Prim.Native.Nat.{_+_}
 use mathlib.Core.Path.{refl, sym, ap, _∙_}
 use native.Mathlib.Omega.{arith}
 use lib.ListN.{length}

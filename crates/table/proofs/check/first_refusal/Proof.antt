@@ -1,7 +1,7 @@
 use borrow.Author.Needs.{needs}
 use Rattle.table.proofs.check.first_refusal.Statement.{statement}
 use Rattle.table.proofs.check.first_refusal.Tie as tie
-use mathlib.Core.Path.{refl, sym, _∙_}
+use mathlib.Core.Path.{sym, _∙_}
 use borrow.Author.Tests.{not-true, not-false, lt-leb, le-leb, eq-eqb, ne-eqb}
 use Rattle.table.specs.Check.{refusal}
 use Rattle.table.specs.Chain.{check-stops, check-goes}
