@@ -2,7 +2,7 @@
 use mathlib.Core.Path.{_≡_, sym, ap, _∙_}
 use mathlib.Core.Logic.{_↔_}
 use mathlib.Core.Bool.{Bool, true, false, not, _&&_, true≢false}
-use Prim.Native.Nat.{ℕ, _≤_, _<_}
+use Prim.Native.Nat.{ℕ, _<_}
 use native.Mathlib.Omega.{arith}
 use native.Mathlib.Decide.{decLt}
 use lib.Dec.{T, eqb, eqb→eq, not-T}
@@ -137,8 +137,3 @@ module _ (s : Shape) (done : ℕ → Bool) where
     | yes p ↦ p
     | no p ↦ absurd (rw (is-none s c (omega arith)) at al)
   ]
-
-  -- a number at or above N is no such call, also where it is marked
-  pub no-such-call : (c : ℕ) → total s ≤ c → refusalAt s done c ≡ 11
-  unfolding refusalAt refusalOf
-  no-such-call c h = rw (is-none s c h)

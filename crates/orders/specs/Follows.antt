@@ -1,6 +1,6 @@
 -- Keeping the rules said call by call, from a set of calls that are done: the form for inductions.
 use mathlib.Core.Path.{_≡_, refl, sym, ap}
-use mathlib.Core.Logic.{_↔_, _≢_, inl, inr}
+use mathlib.Core.Logic.{_≢_, inl, inr}
 use mathlib.Core.Bool.{Bool, not}
 use mathlib.Core.List.{List, [], _∷_}
 use Prim.Native.Nat.{ℕ, zero, suc, _+_, _<_}
@@ -139,6 +139,3 @@ module _ (N : ℕ) (pred : ℕ → ℕ → Bool) where
     once = follows-once none l f;
     rules = follows-rules none l f;
   }
-
-  pub keeps-iff : (l : List ℕ) → Keeps N pred l ↔ Follows none l
-  keeps-iff l = (keeps→follows l, follows→keeps l)

@@ -1,24 +1,21 @@
 -- Demand 2 over any calls and any rules: all are placed exactly where there is no cycle; else one is shown.
-use mathlib.Core.Path.{_≡_, refl, _∙_}
+use mathlib.Core.Path.{_≡_}
 use mathlib.Core.Logic.{_↔_}
-use mathlib.Core.Bool.{Bool, not}
+use mathlib.Core.Bool.{Bool}
 use mathlib.Core.List.{List, []}
-use Prim.Native.Nat.{ℕ, zero, suc, _≤_, _<_}
+use Prim.Native.Nat.{ℕ, suc, _≤_, _<_}
 use native.Mathlib.Omega.{arith}
 use native.Mathlib.Decide.{decLt}
 use lib.ListN.{length, getD}
-use Rattle.search.specs.Truth.{clash}
-use Rattle.search.specs.Least.{lowest-is}
-use Rattle.search.specs.Count.{count-full}
 use Rattle.orders.specs.Cycle.{Cycle}
 use Rattle.orders.specs.First.{First}
 use Rattle.orders.specs.Apart.{apart}
 use Rattle.orders.specs.Sort.{placed}
 use Rattle.orders.specs.Sorted.{placed-first}
-use Rattle.orders.specs.Remains.{placed-count, placed-le, placed-stuck, left-one}
+use Rattle.orders.specs.Remains.{placed-le, placed-stuck, left-one}
 use Rattle.orders.specs.Walk.{among, lowestLeft, met}
-use Rattle.orders.specs.Walked.{walk-lost, met-is}
-use Rattle.orders.specs.Turn.{turn, lowestPlace, shown}
+use Rattle.orders.specs.Walked.{met-is}
+use Rattle.orders.specs.Turn.{lowestPlace, shown}
 use Rattle.orders.specs.Turned.{Once, turn-length, turn-cycle, turn-once, lowestPlace-is, lowest-first}
 use Rattle.orders.specs.Seen.{new-once, walk-new}
 
@@ -44,23 +41,6 @@ module _ (N : ℕ) (pred : ℕ → ℕ → Bool) where
         once = turn-once (lowestPlace N m) m p
             (new-once m (walk-new N pred done (suc N) [] (lowestLeft N pred done) tt));
       }
-
-  -- where nothing remains, nothing is shown
-  pub shown-none : length (placed N pred) ≡ N → shown N pred (among (placed N pred)) ≡ []
-  unfolding shown met lowestLeft
-  shown-none e =
-      let done = among (placed N pred) in
-      let l = lowest-is (λ c. not (done c)) N in
-      let n : N ≤ lowestLeft N pred done = elim (decLt (lowestLeft N pred done) N) [
-        | no p ↦ omega arith
-        | yes p ↦
-            absurd (clash (done (lowestLeft N pred done)) (count-full done N (placed-count N pred ∙ e) (lowestLeft N pred done) p) (l .passes p))
-      ] in
-      rw (walk-lost N pred done (suc N) [] (lowestLeft N pred done) n) (turn-none (lowestPlace N []))
-    where
-      turn-none : (k : ℕ) → turn k [] ≡ []
-      turn-none zero = refl
-      turn-none (suc k) = refl
 
   -- ---- demand 2
   -- all are placed exactly where no cycle exists

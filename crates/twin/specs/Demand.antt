@@ -91,12 +91,3 @@ module _ {Val : Type 0} (t : List ℕ) (m : Rules Val) where
 
   pub written-passed : refusal t ≡ 0 → length written ≡ total (shapeOf t) → Passed t written
   written-passed z e = ap (λ a. a .number) (order-passed t z e)
-
-  pub written-solves : refusal t ≡ 0 → length written ≡ total (shapeOf t) → (w : World Val)
-      → Solves (shapeOf t) m (values w) (values (end w written))
-  written-solves z e = run-solves written (written-passed z e)
-
-  -- any passed order ends as that one does
-  pub written-alike : refusal t ≡ 0 → length written ≡ total (shapeOf t) → (order : List ℕ) → Passed t order
-      → (w : World Val) (a : ℕ) → a < total (shapeOf t) → end w order a ≡ end w written a
-  written-alike z e order p = runs-alike order written p (written-passed z e)
