@@ -39,8 +39,10 @@ module _ (t p s : List ℕ) (c : Counts) (f : Fit t p s c) where
           (λ i g. n .slots-kept (224 + i) (225 + i) (λ j a z x y. omega arith) (λ j a z e. omega arith) .at (224 + i)
           (omega arith) (omega arith) ∙ f .units-free i g)
           (ap (λ k. getD r (224 + k) 0) (sym (zero-add (c .units))) ∙ n .owner);
-      outputs-ranked = others-ranked t p s q r 0 (c .units) b 0 32 (c .outputs) n (omega arith) (λ j a z x y. omega arith) (f .outputs-ranked);
-      inputs-ranked = others-ranked t p s q r 0 (c .units) b 0 128 (c .inputs) n (omega arith) (λ j a z x y. omega arith) (f .inputs-ranked);
+      outputs-ranked = others-ranked t p s q r 0 (c .units) b 0 32 (c .outputs) n
+          (omega arith) (λ j a z x y. omega arith) (f .outputs-ranked);
+      inputs-ranked = others-ranked t p s q r 0 (c .units) b 0 128 (c .inputs) n
+          (omega arith) (λ j a z x y. omega arith) (f .inputs-ranked);
     }
 
     pub unit-noted : Stands t q r moreUnits (addUnit (draftOf t p s c) (fieldAt t b))
@@ -78,14 +80,16 @@ module _ (t p s : List ℕ) (c : Counts) (f : Fit t p s c) where
       outputs-most = omega arith;
       inputs-most = f .inputs-most;
       feeds-most = f .feeds-most;
-      units-ranked = others-ranked t p s q r 32 (c .outputs) b u 0 (c .units) n (omega arith) (λ j a z x y. omega (arith, f .units-most)) (f .units-ranked);
+      units-ranked = others-ranked t p s q r 32 (c .outputs) b u 0 (c .units) n
+          (omega arith) (λ j a z x y. omega (arith, f .units-most)) (f .units-ranked);
       units-free =
           λ i g.
           n .slots-kept (224 + i) (225 + i) (λ j a z x y. omega (arith, f .units-most))
           (λ j a z e. omega (arith, f .units-most)) .at (224 + i)
           (omega arith) (omega arith) ∙ f .units-free i g;
       outputs-ranked = n .ranked;
-      inputs-ranked = others-ranked t p s q r 32 (c .outputs) b u 128 (c .inputs) n (omega arith) (λ j a z x y. omega arith) (f .inputs-ranked);
+      inputs-ranked = others-ranked t p s q r 32 (c .outputs) b u 128 (c .inputs) n
+          (omega arith) (λ j a z x y. omega arith) (f .inputs-ranked);
     }
 
     pub output-noted : Stands t q r moreOutputs (addOutput (draftOf t p s c) (record { owner = u; name = fieldAt t b }))
