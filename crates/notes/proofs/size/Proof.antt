@@ -42,7 +42,7 @@ loop-again c = (
 )
 
 sub-result : tie.Need-sub-result Inv-loop μ-loop
-sub-result c = c .before .before .loop .inv .0
+sub-result c = omega (arith, c .before .before .loop .inv .0)
 
 returns : tie.Need-returns Inv-loop μ-loop
 returns c =
