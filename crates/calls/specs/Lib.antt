@@ -2,4 +2,3 @@ pub mod Number
 pub mod Precedence
 pub mod Numbers
 pub mod Neighbours
-pub mod Determined

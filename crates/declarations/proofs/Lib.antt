@@ -1,2 +1,3 @@
 -- Laws of the loop over the lines.
 mod Noting
+pub mod Settled

@@ -3,4 +3,3 @@ pub mod Noted
 pub mod Turn
 pub mod Begins
 pub mod Standing
-pub mod Determined

@@ -1,3 +1,4 @@
 -- Laws of the loops.
 mod Bytes
 mod Lexing
+pub mod Settled

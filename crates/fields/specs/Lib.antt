@@ -5,4 +5,3 @@ pub mod Places
 pub mod Before
 pub mod Promise
 pub mod Parts
-pub mod Determined

@@ -4,3 +4,4 @@ pub mod Scanned
 pub mod Turns
 pub mod Recorded
 pub mod Walked
+pub mod Settled

@@ -3,4 +3,3 @@ pub mod Scans
 pub mod Taken
 pub mod Records
 pub mod Carried
-pub mod Determined

@@ -1,3 +1,4 @@
 -- Laws of the listing.
 mod Counted
 mod Composed
+pub mod Settled

@@ -8,3 +8,4 @@ pub mod Putting
 pub mod Added
 pub mod Found
 pub mod Slots
+pub mod Settled

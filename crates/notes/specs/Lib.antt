@@ -3,4 +3,3 @@ pub mod Ranks
 pub mod Listed
 pub mod Notes
 pub mod Noted
-pub mod Determined

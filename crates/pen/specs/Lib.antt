@@ -2,4 +2,3 @@
 pub mod Put
 pub mod Decimal
 pub mod Chain
-pub mod Determined

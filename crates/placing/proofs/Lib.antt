@@ -6,3 +6,4 @@ pub mod Filled
 pub mod Stage
 pub mod Told
 pub mod Passed
+pub mod Settled

@@ -2,4 +2,3 @@ pub mod Less
 pub mod Waiting
 pub mod Placing
 pub mod Placed
-pub mod Determined

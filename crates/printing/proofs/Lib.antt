@@ -3,3 +3,4 @@ mod Fielded
 mod Declares
 mod Listing
 mod Whole
+pub mod Settled

@@ -4,4 +4,3 @@ pub mod Entries
 pub mod Listed
 pub mod Indexed
 pub mod Places
-pub mod Determined

@@ -3,3 +3,4 @@ pub mod Trails
 pub mod Turning
 pub mod Showing
 pub mod Joined
+pub mod Settled

@@ -7,4 +7,3 @@ pub mod Layout
 pub mod Chain
 pub mod Wiring
 pub mod Checked
-pub mod Determined

@@ -8,3 +8,4 @@ pub mod Going
 pub mod Noticing
 pub mod Packing
 pub mod Answers
+pub mod Settled

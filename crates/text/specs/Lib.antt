@@ -1,4 +1,3 @@
 pub mod Took
 pub mod Walked
 pub mod Packs
-pub mod Determined

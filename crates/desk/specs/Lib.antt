@@ -1,2 +1,0 @@
--- What the desktop calls answer.
-pub mod Determined
