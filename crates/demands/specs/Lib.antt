@@ -1,2 +1,4 @@
 pub mod Given
 pub mod Demands
+pub mod Coded
+pub mod Told
