@@ -1,4 +1,4 @@
-// Runs the examples of document 01 and of its readings that are not proved, and prints what each gives.
+// Runs what is not proved of SPECIFICATION, Examples, and more of their kind, and prints what each gives.
 use judge::verdict;
 use sorter::order::order;
 ghost use mathlib.Core.Path.{_≡_};
