@@ -1,4 +1,4 @@
-// Runs what is not proved of SPECIFICATION, Examples, and more of their kind, and prints what each gives.
+// Runs examples that are not proved, and prints what each gives: SPECIFICATION, Examples.
 use judge::verdict;
 use sorter::order::order;
 ghost use mathlib.Core.Path.{_≡_};

@@ -18,7 +18,7 @@ module _ {Val : Type 0} (s : Shape) (m : Rules Val) where
     -- an output comes from its unit's state and its feeding inputs, all of them new
     pub outputs : (y : ℕ) → y < s .outputs
         → new (getNo s y) ≡ m .outputRule y (new (stepNo (s .outputOwner y))) (feeding s y (λ x. new (setNo s x)))
-    -- an input has what its source has
+    -- an input has its source's new value
     pub inputs : (x : ℕ) → x < s .inputs → new (setNo s x) ≡ new (getNo s (s .source x))
 
 module _ {Val : Type 0} (s : Shape) where
