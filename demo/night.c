@@ -44,7 +44,7 @@ static uint32_t judge(const char *whose, const uint8_t *calls)
     return answer;
 }
 
-/* Version one: read all, set all, step all. */
+/* Version one, the same for every table: all gets, all sets, all steps. */
 static void version_one(uint8_t *calls)
 {
     size_t count = 0;

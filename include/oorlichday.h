@@ -13,27 +13,27 @@ extern "C" {
 #define OORLICHDAY_TABLE_MAX 644u
 #define OORLICHDAY_ORDER_MAX 224u
 
-/* The numbers of an answer: 1 to 7 are the table's, 8 to 10 the order's, 11 to 18 the verdict's. */
+/* An answer's number, SPECIFICATION, Numbers: 1 to 7 the table's, 8 to 10 the order's, 11 to 18 the verdict's. */
 enum oorlichday_number {
     OORLICHDAY_OK = 0,
-    OORLICHDAY_LENGTH = 1,            /* table under 4 bytes, or not the length its counts ask */
-    OORLICHDAY_COUNT = 2,             /* a count outside its range */
-    OORLICHDAY_OWNER = 3,             /* owner not below U */
-    OORLICHDAY_KIND = 4,              /* kind above 1 */
-    OORLICHDAY_SOURCE = 5,            /* source not below Y */
-    OORLICHDAY_FEED = 6,              /* feed names no input or no output, or owners differ */
-    OORLICHDAY_FEED_TWICE = 7,        /* feed pair given before */
-    OORLICHDAY_ROOM = 8,              /* order buffer under N bytes */
-    OORLICHDAY_CYCLE = 9,             /* cycle; its length is the place */
+    OORLICHDAY_LENGTH = 1,            /* fewer than 4 bytes, or another length than the counts call for */
+    OORLICHDAY_COUNT = 2,             /* a count is out of range */
+    OORLICHDAY_OWNER = 3,             /* an owner is no unit */
+    OORLICHDAY_KIND = 4,              /* a kind is neither 0 nor 1 */
+    OORLICHDAY_SOURCE = 5,            /* a source is no output */
+    OORLICHDAY_FEED = 6,              /* a feed names a port that is not there, or ports of two units */
+    OORLICHDAY_FEED_TWICE = 7,        /* an earlier feed is the same */
+    OORLICHDAY_ROOM = 8,              /* the buffer has fewer than N bytes */
+    OORLICHDAY_CYCLE = 9,             /* there is a cycle; its length is the place */
     OORLICHDAY_NOTHING_READY = 10,    /* nothing ready, no cycle found; never for a sound table */
-    OORLICHDAY_NO_CALL = 11,          /* no such call */
-    OORLICHDAY_DONE_BEFORE = 12,      /* call done before */
-    OORLICHDAY_DELAYED_SET = 13,      /* step: a delayed input is already set */
-    OORLICHDAY_REACTIVE_NOT_SET = 14, /* step: a reactive input is not set */
-    OORLICHDAY_NOT_STEPPED = 15,      /* get: unit not stepped */
-    OORLICHDAY_FEEDING_NOT_SET = 16,  /* get: a feeding input not set */
-    OORLICHDAY_SOURCE_NOT_GOT = 17,   /* set: source not got */
-    OORLICHDAY_ENDED = 18             /* order ended before N calls; its length is the place */
+    OORLICHDAY_NO_CALL = 11,          /* this is no call */
+    OORLICHDAY_DONE_BEFORE = 12,      /* this call is done already */
+    OORLICHDAY_DELAYED_SET = 13,      /* a step: a delayed input has been set */
+    OORLICHDAY_REACTIVE_NOT_SET = 14, /* a step: a reactive input has not been set */
+    OORLICHDAY_NOT_STEPPED = 15,      /* a get: its unit has not stepped */
+    OORLICHDAY_FEEDING_NOT_SET = 16,  /* a get: an input that feeds it has not been set */
+    OORLICHDAY_SOURCE_NOT_GOT = 17,   /* a set: its source has not been got */
+    OORLICHDAY_ENDED = 18             /* fewer than N calls; how many is the place */
 };
 
 /*

@@ -13,23 +13,23 @@ extern "C" {
 #define OORLICHDAY_TEXT_MAX 24576u
 #define OORLICHDAY_LISTING_MAX 8860u
 
-/* The numbers of a text's refusal. */
+/* The number of a text's refusal: SPECIFICATION, Numbers 20 to 34. */
 enum oorlichday_text_number {
-    OORLICHDAY_TEXT_SIZE = 20,        /* empty or over the limit; line 0 */
-    OORLICHDAY_TEXT_NOT_ENDED = 21,   /* last line not ended */
-    OORLICHDAY_TEXT_BYTE = 22,        /* a byte not allowed */
-    OORLICHDAY_TEXT_FIRST_LINE = 23,  /* first line wrong */
-    OORLICHDAY_TEXT_FORM = 24,        /* unknown keyword, or number of fields */
-    OORLICHDAY_TEXT_NAME = 25,        /* name empty or too long */
-    OORLICHDAY_TEXT_NAME_TWICE = 26,  /* name declared twice */
-    OORLICHDAY_TEXT_NOT_DECLARED = 27, /* name not declared */
-    OORLICHDAY_TEXT_KIND = 28,        /* kind word unknown */
-    OORLICHDAY_TEXT_COUNT = 29,       /* one more than a count allows */
-    OORLICHDAY_TEXT_JOINED_TWICE = 30, /* input joined twice */
-    OORLICHDAY_TEXT_NOT_JOINED = 31,  /* input without join */
-    OORLICHDAY_TEXT_FEED_TWICE = 32,  /* feed twice */
+    OORLICHDAY_TEXT_SIZE = 20,        /* no bytes, or too many; line 0 */
+    OORLICHDAY_TEXT_NOT_ENDED = 21,   /* the last line has no LF */
+    OORLICHDAY_TEXT_BYTE = 22,        /* a byte that no text may have */
+    OORLICHDAY_TEXT_FIRST_LINE = 23,  /* the first line is not as it must be */
+    OORLICHDAY_TEXT_FORM = 24,        /* no such keyword, or not its number of fields */
+    OORLICHDAY_TEXT_NAME = 25,        /* a name of no bytes, or of more than 16 */
+    OORLICHDAY_TEXT_NAME_TWICE = 26,  /* a name that its set has already */
+    OORLICHDAY_TEXT_NOT_DECLARED = 27, /* a name that no line above declares */
+    OORLICHDAY_TEXT_KIND = 28,        /* a kind that is neither word */
+    OORLICHDAY_TEXT_COUNT = 29,       /* one more than a table can have */
+    OORLICHDAY_TEXT_JOINED_TWICE = 30, /* an input that is joined already */
+    OORLICHDAY_TEXT_NOT_JOINED = 31,  /* an input that no line joins */
+    OORLICHDAY_TEXT_FEED_TWICE = 32,  /* a feed that is given already */
     OORLICHDAY_TEXT_NO_UNIT = 33,     /* no unit; line 1 */
-    OORLICHDAY_TEXT_ROOM = 34         /* buffer too short; line 0 */
+    OORLICHDAY_TEXT_ROOM = 34         /* the lent buffer is too short; line 0 */
 };
 
 /* A refusal's number with its line, counted from 1; or 0 with how many bytes were written. */

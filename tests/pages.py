@@ -1,12 +1,21 @@
 #!/usr/bin/env python3
-"""Holds the pages to the tree: links and paths lead somewhere, and every number has its line."""
+"""Holds the pages to the tree: links, paths and cited rules lead somewhere, and every number has its line.
+
+A page cites a rule by a link to its section and its number, a source by words: SPECIFICATION, Precedence 3."""
 import re
 import sys
 from pathlib import Path
 
 ROOT = Path(__file__).resolve().parent.parent
 PAGES = [ROOT / "README.md", *sorted((ROOT / "docs").glob("*.md")), *sorted((ROOT / "examples").glob("*.md"))]
+ROOMS = ("crates", "tests", "bench", "include", "demo")
+SPECIFICATION = ROOT / "docs/SPECIFICATION.md"
 NUMBERS = [*range(0, 19), *range(20, 35)]
+CITED = r"((?:(?: |, | and | to )\d+\b)*)"  # the rules behind a section's name
+
+
+def read(path):
+    return path.read_text(encoding="utf-8", errors="replace")
 
 
 def is_there(path):
@@ -17,23 +26,73 @@ def is_there(path):
     return any(any(ROOT.glob(start + path)) for start in ("", "crates/", "crates/*/"))
 
 
+def anchor(heading):
+    """The name that a heading has in links."""
+    return re.sub(r"[^\w\- ]", "", heading.lower()).replace(" ", "-")
+
+
+def anchors(page):
+    return [anchor(heading) for heading in re.findall(r"^#+ (.+)$", read(page), re.M)]
+
+
+def sections():
+    """The sections of SPECIFICATION.md by name, each with the numbers of its rules as they stand there."""
+    parts = re.split(r"^## (.+)$", read(SPECIFICATION), flags=re.M)
+    rule = re.compile(r"^(?:\*\*(\d+)\.|\| (\d+) \|)", re.M)
+    return {name: [int(a or b) for a, b in rule.findall(text)] for name, text in zip(parts[1::2], parts[2::2])}
+
+
+def unruled(name, cited, rules):
+    """The rules cited of a section that it does not have."""
+    return [f"{name} {number}" for number in re.findall(r"\d+", cited) if int(number) not in rules]
+
+
+def broken(page, rules):
+    """The links of a page that lead to no file, to no heading, or to a section without the rule cited."""
+    wrong = []
+    for path, to, cited in re.findall(rf"\]\(([^)#:]*)(?:#([^):]*))?\){CITED}", read(page)):
+        file = (page.parent / path).resolve() if path else page
+        if not file.exists() or (to and to not in anchors(file)):
+            wrong.append(f"{path}#{to}" if to else path)
+        elif to and file == SPECIFICATION:
+            wrong += unruled(to, cited, rules.get(to, []))
+    return wrong
+
+
 def lost(page):
-    """The links and the quoted paths of a page that lead nowhere."""
-    text = page.read_text(encoding="utf-8")
-    links = [link for link in re.findall(r"\]\(([^)#:]+)\)", text) if not (page.parent / link).exists()]
-    quoted = re.findall(r"`(\w[\w.-]*/[^`\s]*)", text)
-    paths = [path for path in quoted if re.search(r"\.\w+$|/$", path) and not is_there(path)]
-    return links + paths
+    """The quoted paths of a page that lead nowhere, or to no heading."""
+    wrong = []
+    for quoted in re.findall(r"`(\w[\w.-]*/[^`\s]*)", read(page)):
+        path, _, to = quoted.partition("#")
+        if re.search(r"\.\w+$|/$", path) and not (is_there(path) and (not to or to in anchors(ROOT / path))):
+            wrong.append(quoted)
+    return wrong
+
+
+def misnamed(source, known):
+    """What a source cites of SPECIFICATION.md that is not there: a section, or a rule of one."""
+    wrong = []
+    for words in re.findall(r"SPECIFICATION, ([A-Z].*)", read(source)):
+        name = next((name for name in known if re.match(rf"{name}\b", words)), None)
+        wrong += unruled(name, re.match(CITED, words[len(name):])[1], known[name]) if name else [words]
+    return wrong
 
 
 def main():
-    failed = []
+    known = sections()
+    rules = {anchor(name): numbers for name, numbers in known.items()}
+    failed = [f"SPECIFICATION.md: a rule of {name} stands twice"
+              for name, numbers in known.items() if len(numbers) != len(set(numbers))]
     for page in PAGES:
-        failed += [f"{page.name}: {path} is not there" for path in lost(page)]
-    rows = re.findall(r"^\| (\d+) \|", (ROOT / "docs/INTEGRATE.md").read_text(encoding="utf-8"), re.M)
+        failed += [f"{page.name}: {path} is not there" for path in broken(page, rules) + lost(page)]
+    for source in (path for room in ROOMS for path in sorted((ROOT / room).rglob("*")) if path.is_file()):
+        failed += [f"{source.relative_to(ROOT)}: no SPECIFICATION, {rule}" for rule in misnamed(source, known)]
+    if known.get("Numbers") != NUMBERS:
+        failed.append(f"SPECIFICATION.md: the numbers' lines are {known.get('Numbers')}")
+    rows = re.findall(r"^\| (\d+) \|", read(ROOT / "docs/INTEGRATE.md"), re.M)
     if [int(row) for row in rows] != NUMBERS:
         failed.append(f"INTEGRATE.md: the numbers' lines are {rows}")
-    headers = "".join(path.read_text(encoding="utf-8") for path in sorted((ROOT / "include").glob("*.h")))
+    headers = "".join(read(path) for path in sorted((ROOT / "include").glob("*.h")))
     named = [int(number) for number in re.findall(r"^    OORLICHDAY_\w+ = (\d+)", headers, re.M)]
     if named != NUMBERS:
         failed.append(f"include: the numbers named are {named}")

@@ -1,4 +1,4 @@
-/* The check from C: document 01's examples, buffers at page ends, the greatest table, any bytes. */
+/* The check from C: SPECIFICATION, Examples; buffers at page ends, the greatest table, any bytes. */
 #include "../../include/oorlichday.h"
 #include "test.h"
 

@@ -1,4 +1,4 @@
-/* The order from C: document 01's examples, every buffer length, canaries, the greatest tables. */
+/* The order from C: SPECIFICATION, Examples; every buffer length, canaries, the greatest tables. */
 #include "../../include/oorlichday.h"
 #include "test.h"
 

@@ -1,4 +1,4 @@
-/* The verdict from C: document 01's examples, overlapping reads, any length, any bytes. */
+/* The verdict from C: SPECIFICATION, Examples; overlapping reads, any length, any bytes. */
 #include "../../include/oorlichday.h"
 #include "test.h"
 

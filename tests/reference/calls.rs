@@ -1,4 +1,4 @@
-//! Call numbers and the five sentences on precedence.
+//! Call numbers and direct predecessors: SPECIFICATION, Calls and Precedence.
 
 use super::table::Table;
 
@@ -38,25 +38,25 @@ impl Table {
     /// For each call its direct predecessors, by rising number.
     pub fn predecessors(&self) -> Vec<Vec<usize>> {
         let mut before = vec![Vec::new(); self.calls()];
-        // Step of a unit comes before get of each of its outputs.
+        // Rule 1: an output is got after its unit's step.
         for output in 0..self.outputs() {
             before[self.get(output)].push(self.step(self.output_owner[output]));
         }
-        // Get of an output comes before set of each input joined to it.
+        // Rule 2: an input is set after its source's get.
         for input in 0..self.inputs() {
             before[self.set(input)].push(self.get(self.source[input]));
         }
-        // Set of an input comes before get of each output that it feeds.
+        // Rule 3: a feed's output is got after its input's set.
         for &(input, output) in &self.feeds {
             before[self.get(output)].push(self.set(input));
         }
         for input in 0..self.inputs() {
             let (step, set) = (self.step(self.input_owner[input]), self.set(input));
             if self.reactive[input] {
-                // Set of a reactive input comes before the step of its unit.
+                // Rule 4: a unit steps after the set of its reactive input.
                 before[step].push(set);
             } else {
-                // Step of a unit comes before set of each of its delayed inputs.
+                // Rule 5: a delayed input is set after its unit's step.
                 before[set].push(step);
             }
         }

@@ -1,4 +1,4 @@
-//! The library's answers, written a second time from document 01's sentences and nothing else.
+//! The library's answers a second time, by the rules of docs/SPECIFICATION.md and with nothing of the library.
 
 pub mod calls;
 pub mod list;
@@ -25,7 +25,7 @@ pub fn refusal(number: usize, place: usize) -> Answer {
     Answer { number, place }
 }
 
-/// What the C side gets: 256 times the number plus the place.
+/// Number and place in one: SPECIFICATION, For C 1.
 pub fn as_c(answer: Answer) -> u32 {
     (256 * answer.number + answer.place) as u32
 }

@@ -21,7 +21,7 @@ pub fn order(bytes: &[u8], room: usize) -> (Answer, Vec<u8>) {
     }
 }
 
-/// At each place the lowest call not yet placed whose direct predecessors have all been placed.
+/// At each place the lowest ready call: SPECIFICATION, Order and cycle 4.
 fn first_order(before: &[Vec<usize>]) -> Result<Vec<usize>, Vec<bool>> {
     let mut placed = vec![false; before.len()];
     let mut order = Vec::new();

@@ -28,7 +28,7 @@ impl Table {
         self.units + self.outputs() + self.inputs()
     }
 
-    /// The bytes, in the order of document 01.
+    /// The bytes: SPECIFICATION, Packed table 1.
     pub fn packed(&self) -> Vec<u8> {
         let counts = [self.units, self.outputs(), self.inputs(), self.feeds.len()];
         let mut bytes: Vec<usize> = counts.to_vec();
@@ -90,7 +90,7 @@ pub fn sound(bytes: &[u8]) -> Result<Table, usize> {
     Ok(Table { units, output_owner, input_owner, reactive, source, feeds: pairs })
 }
 
-/// The check alone: success is 0 with N as the place.
+/// The check alone: a refusal at place 0, or 0 with N.
 pub fn check(bytes: &[u8]) -> Answer {
     match sound(bytes) {
         Ok(table) => success(table.calls()),

@@ -11,7 +11,7 @@ pub struct Run {
 }
 
 impl Run {
-    /// At the start nothing has been done.
+    /// The start, where no call is done.
     pub fn start() -> Run {
         Run { done: [false; 224] }
     }
@@ -97,7 +97,7 @@ pub fn verdict(bytes: &[u8], order: &[u8]) -> Answer {
     }
 }
 
-/// The verdict on records, each a kind and a number counted within its kind.
+/// The verdict on records, each with its kind and its number within the kind.
 pub fn verdict_of_records(bytes: &[u8], records: &[(u8, u8)]) -> Answer {
     let table = match table::sound(bytes) {
         Ok(table) => table,

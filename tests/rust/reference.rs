@@ -1,4 +1,4 @@
-//! The reference itself: document 01's examples, and answers that must agree with each other.
+//! The reference itself: SPECIFICATION, Examples, and answers that must agree with each other.
 
 #[path = "../reference/mod.rs"]
 #[allow(dead_code)]
@@ -110,7 +110,7 @@ fn texts_refused() {
     refused(33, 1, &[""]);
 }
 
-/// The verdict on records equals that on the numbered form.
+/// Records and their call numbers get the same verdict.
 #[test]
 fn records_and_numbers_agree() {
     let mut random = Random::new(61);

@@ -1,4 +1,4 @@
--- Call numbers: 0 to U-1 step that unit, U to U+Y-1 get that output, U+Y to U+Y+X-1 set that input.
+-- Which call a number stands for: SPECIFICATION, Calls.
 use Prim.Native.Nat.{ℕ, _+_, _-_}
 use mathlib.Core.Bool.{cond}
 use lib.Dec.{ltb}
@@ -6,7 +6,7 @@ use Rattle.table.specs.Shape.{Shape}
 use Rattle.calls.specs.declared.Call.{Call}
 use Rattle.calls.specs.declared.Call.the-variants.{Step, Get, Set, NoCall}
 
--- the number goes by these three ranges, and all else is no call
+-- u steps, then y gets, then x sets; a number past these is no call
 unfoldable pub callIn : ℕ → ℕ → ℕ → ℕ → Call
 callIn u y x c =
     cond (ltb c u) (Step c)

@@ -1,4 +1,4 @@
--- Direct precedence of calls: the five sentences of document 01, and the test that code and procedures use.
+-- The five rules of SPECIFICATION, Precedence, and the test that code and procedures use.
 use mathlib.Core.Path.{_≡_}
 use mathlib.Core.Bool.{Bool, false, _&&_}
 use Prim.Native.Nat.{ℕ, _<_}
@@ -12,15 +12,15 @@ use Rattle.calls.specs.Number.{callOf, stepNo, getNo, setNo}
 
 -- call a is a direct predecessor of call b
 pub data Precedes (s : Shape) (a b : ℕ) : Type 0 where
-  -- step of a unit comes before get of each of its outputs
+  -- rule 1: an output is got after its unit's step
   step-get : (y : ℕ) → y < s .outputs → a ≡ stepNo (s .outputOwner y) → b ≡ getNo s y → Precedes s a b
-  -- get of an output comes before set of each input joined to it
+  -- rule 2: an input is set after its source's get
   get-set : (x : ℕ) → x < s .inputs → a ≡ getNo s (s .source x) → b ≡ setNo s x → Precedes s a b
-  -- set of an input comes before get of each output that it feeds
+  -- rule 3: a feed's output is got after its input's set
   set-get : (k : ℕ) → k < s .feeds → a ≡ setNo s (s .feedInput k) → b ≡ getNo s (s .feedOutput k) → Precedes s a b
-  -- set of a reactive input comes before the step of its unit
+  -- rule 4: a unit steps after the set of its reactive input
   set-step : (x : ℕ) → x < s .inputs → s .kind x ≡ 1 → a ≡ setNo s x → b ≡ stepNo (s .inputOwner x) → Precedes s a b
-  -- step of a unit comes before set of each of its delayed inputs
+  -- rule 5: a delayed input is set after its unit's step
   step-set : (x : ℕ) → x < s .inputs → s .kind x ≡ 0 → a ≡ stepNo (s .inputOwner x) → b ≡ setNo s x → Precedes s a b
 
 -- input x feeds output y

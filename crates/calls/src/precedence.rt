@@ -1,4 +1,4 @@
-// Which call is a direct predecessor of which, by document 01's five rules.
+// Which call is a direct predecessor of which: SPECIFICATION, Precedence 1 to 5.
 ghost use mathlib.Core.Path.{_≡_};
 ghost use mathlib.Core.Bool.{_&&_};
 ghost use Prim.Native.Nat.{_<_};

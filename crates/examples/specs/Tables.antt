@@ -1,4 +1,4 @@
--- The tables of document 01's examples.
+-- The tables of SPECIFICATION, Examples.
 use Prim.Native.Nat.{ℕ}
 use mathlib.Core.List.{List, [], _∷_}
 

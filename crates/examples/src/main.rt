@@ -1,4 +1,4 @@
-// Runs the examples of document 01 and of its readings that are not proved, and prints what each gives.
+// Runs examples that are not proved, and prints what each gives: SPECIFICATION, Examples.
 use judge::verdict;
 use sorter::order::order;
 ghost use mathlib.Core.Path.{_≡_};

@@ -1,4 +1,4 @@
--- What the C side gets: 256 times the number plus the place.
+-- Number and place in one: SPECIFICATION, For C 1.
 use mathlib.Core.Path.{_≡_}
 use Prim.Native.Nat.{ℕ, _+_, _*_, _≤_}
 use native.Mathlib.Omega.{arith}

@@ -1,4 +1,4 @@
-// What the C firmware calls: the check, the order and the verdict on byte buffers.
+// What the firmware calls from C: SPECIFICATION, For C.
 ghost use mathlib.Core.Path.{_≡_};
 ghost use Prim.Native.Nat.{_≤_};
 ghost use Rattle.table.specs.Check.{checked};

@@ -1,4 +1,4 @@
--- What has been declared so far: names found in it, and one declaration more.
+-- What has been declared so far, names found in it, and one declaration more: SPECIFICATION, Text 6 to 8.
 use Prim.Native.Nat.{ℕ}
 use mathlib.Core.Bool.{Bool, _&&_}
 use mathlib.Core.List.{List, [], _∷_, _++_}
@@ -23,7 +23,7 @@ pub record Feed : Type 0 where
   pub input : ℕ
   pub output : ℕ
 
--- "Numbers are given in line order within units, outputs and inputs. Feeds stand in line order"
+-- each list in line order, so that a place in it is a number
 pub record Draft : Type 0 where
   pub units : List (List ℕ)
   pub outputs : List Output
@@ -47,7 +47,7 @@ noInput = record { owner = 0; name = []; kind = 0; source = 0; line = 0 }
 abbrev pub inputOf : Draft → ℕ → Input
 inputOf d x = getD (d .inputs) x noInput
 
--- ---- "Units share one set of names; each unit has one for its outputs and one for its inputs"
+-- ---- three kinds of sets of names: the units, the outputs of a unit, the inputs of a unit
 -- the number of what has that name, or the count where nothing has
 
 unfoldable pub unitNamed : Draft → List ℕ → ℕ

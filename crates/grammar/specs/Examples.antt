@@ -115,7 +115,7 @@ refusals =
     ∷ (27, 6, apart "feed\tb\tx\ty\n")
     ∷ (27, 6, apart "join\ta\ty\ta\tx\n")
     ∷ (27, 6, apart "join\tb\ty\tb\tx\n")
-    -- twice, and one more than a count allows
+    -- twice, and one more than a table can have
     ∷ (26, 3, below "unit\ta\nunit\ta\n")
     ∷ (26, 5, ported "out\ta\ty\n")
     ∷ (26, 5, ported "in\ta\tx\treactive\n")

@@ -1,4 +1,4 @@
--- One line below the first: its refusal, or the draft after it. In a line the order is 24, 25, 28, 27, 26, 30, 32, 29.
+-- One line below the first: its refusal, or the draft after it, by SPECIFICATION, Text 12.
 use Prim.Native.Nat.{ℕ, zero, suc}
 use mathlib.Core.Bool.{Bool, not, _&&_, cond}
 use mathlib.Core.List.{List}
@@ -26,7 +26,7 @@ refuse b n d rest = cond b (refused n d) rest
 unfoldable pub taken : Draft → Outcome
 taken d = record { number = 0; draft = d }
 
--- "Names have 1 to 16 letters, digits or underscores": 22 has seen to the bytes
+-- a name has 1 to 16 bytes; 22 has seen to which these are
 unfoldable pub isName : List ℕ → Bool
 isName w = ltb 0 (length w) && leb (length w) 16
 
@@ -103,7 +103,7 @@ joinLine d f =
     (refuse (not (eqb (inputOf d x .source) unjoined)) 30 d
     (taken (addJoin d x y))))))))
 
--- line k by its keyword; "unknown keyword (`cosim` below line 1 too)" is 24
+-- line k by its keyword; any other word is 24, and so is `cosim`
 unfoldable pub line : Draft → ℕ → List (List ℕ) → Outcome
 line d k f =
     cond (same (word f 0) (ascii "unit")) (unitLine d f)

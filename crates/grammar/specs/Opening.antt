@@ -9,7 +9,7 @@ use Rattle.grammar.specs.Rows.{word}
 abbrev pub Row : Type 0
 Row = List (List ℕ)
 
--- "Numbers are given in line order": the lines that open with w
+-- the lines that open with w, in line order
 unfoldable pub linesOf : List Row → List ℕ → List Row
 linesOf [] w = []
 linesOf (f ∷ fs) w = cond (same (word f 0) w) (f ∷ linesOf fs w) (linesOf fs w)

@@ -1,4 +1,4 @@
--- The whole text: its checks, its first line, its lines, its end, and the packed bytes.
+-- The whole text, from its checks to the packed bytes: SPECIFICATION, Text 10 to 14.
 use Prim.Native.Nat.{ℕ, suc, _-_}
 use mathlib.Core.Bool.{not, _&&_, _||_, cond}
 use mathlib.Core.List.{List, [], _∷_, _++_, map}
@@ -16,7 +16,7 @@ pub record Reading : Type 0 where
   pub place : ℕ
   pub bytes : List ℕ
 
--- "Any refusal leaves the packed buffer unchanged"
+-- a refusal writes nothing
 unfoldable pub stopped : ℕ → ℕ → Reading
 stopped n k = record { number = n; place = k; bytes = [] }
 
@@ -24,15 +24,15 @@ unfoldable pub pairs : List Feed → List ℕ
 pairs [] = []
 pairs (f ∷ fs) = f .input ∷ (f .output ∷ pairs fs)
 
--- "The packed table": counts, owners of outputs and of inputs, kinds, sources, feeds
+-- the parts of the packed table: counts, owners of outputs and of inputs, kinds, sources, feeds
 unfoldable pub packed : Draft → List ℕ
 packed d =
     length (d .units) ∷ (length (d .outputs) ∷ (length (d .inputs) ∷ (length (d .feeds) ∷
     (map (λ o. o .owner) (d .outputs) ++ (map (λ i. i .owner) (d .inputs)
     ++ (map (λ i. i .kind) (d .inputs) ++ (map (λ i. i .source) (d .inputs) ++ pairs (d .feeds))))))))
 
--- "at the end 33 no unit (line 1), 31 input without join (..), 34 packed buffer too short (line 0)";
--- "success returns the packed length and writes the table"
+-- once all lines are taken: 33 at line 1; 31 at its `in` line; 34 at line 0;
+-- else 0 with the packed length, and the packed bytes
 unfoldable pub ending : ℕ → Draft → Reading
 ending room d =
     cond (eqb (length (d .units)) 0) (stopped 33 1)
@@ -47,14 +47,14 @@ linesFrom room d k (f ∷ fs) =
     let o = line d k f in
     cond (eqb (o .number) 0) (linesFrom room (o .draft) (suc k) fs) (stopped (o .number) k)
 
--- "`cosim`, `1`: first line, exactly": 1 where it is that, else 0
+-- 1 where the line is `cosim`, `1` and no more, else 0
 unfoldable pub version : List (List ℕ) → ℕ
 version f = cond (eqb (length f) 2 && (same (word f 0) (ascii "cosim") && same (word f 1) (ascii "1"))) 1 0
 
 unfoldable pub lineByLine : ℕ → List (List (List ℕ)) → Reading
 lineByLine room fs = cond (eqb (version (getD fs 0 [])) 0) (stopped 23 1) (linesFrom room blank 2 (drop 1 fs))
 
--- "20, 21, 22 are checked over the whole text first, then line by line"; room is the packed buffer's
+-- 20, 21 and 22 of the whole text, and then its lines; room is the packed buffer's
 unfoldable pub reading : ℕ → List ℕ → Reading
 reading room t =
     cond (eqb (length t) 0 || ltb 24576 (length t)) (stopped 20 0)

@@ -1,4 +1,4 @@
--- A text as lines of fields, and places in it.
+-- A text as lines of fields, and places in it: SPECIFICATION, Text 2.
 use Prim.Native.Nat.{ℕ, suc, _+_, _-_}
 use mathlib.Core.Bool.{Bool, not, cond}
 use mathlib.Core.List.{List, [], _∷_}
@@ -17,7 +17,7 @@ unfoldable pub parted : List (List (List ℕ)) → List (List (List ℕ))
 parted [] = []
 parted (r ∷ rs) = ([] ∷ r) ∷ rs
 
--- "Lines of text ended by LF, the last one too; fields parted by one tab"
+-- an LF ends a line, and a tab stands between two fields;
 -- what no LF follows is no line: 21 precedes
 unfoldable pub rows : List ℕ → List (List (List ℕ))
 rows [] = []
@@ -37,7 +37,7 @@ unfoldable pub times : ℕ → List ℕ → ℕ
 times c [] = 0
 times c (x ∷ xs) = cond (eqb x c) (suc (times c xs)) (times c xs)
 
--- "a line counted from 1": the one on which the byte at place i stands
+-- the line, counted from 1, on which the byte at place i stands
 -- for 21 i is the text's length, and the line is the one that is not ended
 unfoldable pub lineOf : List ℕ → ℕ → ℕ
 lineOf t i = suc (times lf (take i t))

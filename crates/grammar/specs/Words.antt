@@ -1,4 +1,4 @@
--- The bytes of a text table, and words compared byte for byte.
+-- The bytes that a text may have, and words compared: SPECIFICATION, Text 1 and 5.
 use Prim.Native.Nat.{ℕ}
 use mathlib.Core.Bool.{Bool, true, false, _&&_, _||_}
 use mathlib.Core.List.{List, [], _∷_}
@@ -10,11 +10,11 @@ tab = 9
 abbrev pub lf : ℕ
 lf = 10
 
--- "Bytes allowed: a to z, 0 to 9, underscore, tab, LF"
+-- letters a to z, digits, underscore, tab, LF
 unfoldable pub allowed : ℕ → Bool
 allowed b = (leb 97 b && leb b 122) || ((leb 48 b && leb b 57) || (eqb b 95 || (eqb b tab || eqb b lf)))
 
--- "compared byte for byte"
+-- the very same word
 unfoldable pub same : List ℕ → List ℕ → Bool
 same [] [] = true
 same [] (y ∷ ys) = false

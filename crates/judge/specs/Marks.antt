@@ -1,4 +1,4 @@
--- The marks of a judged run as a set of calls.
+-- The marks of a judged run as a set of calls: SPECIFICATION, Judging 1.
 use mathlib.Core.Path.{_≡_, fun-ext}
 use mathlib.Core.Bool.{Bool, true, false, _&&_}
 use mathlib.Core.List.{List}
@@ -11,7 +11,7 @@ use lib.Seq.{getD-set-same, getD-set-other}
 use Rattle.search.specs.Truth.{is-true, is-false, eq-false, lt-true, lt-false}
 use Rattle.search.specs.Sets.{none, add}
 
--- a state tells which call numbers below 224 are done
+-- the calls that are marked as done, all of them below 224
 unfoldable pub marks : List Bool → ℕ → Bool
 marks done c = ltb c 224 && getD done c false
 

@@ -1,4 +1,4 @@
--- The firmware's own schedule: a list of records read as call numbers.
+-- The firmware's own schedule, records read as call numbers: SPECIFICATION, Records 2.
 use mathlib.Core.Bool.{cond}
 use mathlib.Core.List.{List, [], _∷_}
 use Prim.Native.Nat.{ℕ}
@@ -7,8 +7,8 @@ use Rattle.table.specs.Shape.{Shape, total}
 use Rattle.calls.specs.Number.{stepNo, getNo, setNo}
 use Rattle.judge.specs.declared.records.Record.{Record}
 
--- kind 0, 1 or 2 for step, get, set, and the number counted within its kind;
--- a kind above 2 or a number not below its count has N, which is no call
+-- kinds 0, 1 and 2 are step, get and set, each with numbers of its own;
+-- another kind, or a number as high as its kind's count, is read as N, which is no call
 unfoldable pub numbered : Shape → Record → ℕ
 numbered s r =
     cond (eqb (r .kind) 0) (cond (ltb (r .number) (s .units)) (stepNo (r .number)) (total s))

@@ -1,4 +1,4 @@
--- What a judged run answers to one call.
+-- What a judged run answers to one call: SPECIFICATION, Judging 2 and 3.
 use mathlib.Core.Bool.{true, false, cond}
 use mathlib.Core.List.{List}
 use Prim.Native.Nat.{ℕ}
@@ -11,7 +11,7 @@ use Rattle.judge.specs.declared.Run.{Run}
 use Rattle.judge.specs.declared.Taken.{Taken}
 use Rattle.judge.specs.Marks.{marks}
 
--- at the start nothing has been done
+-- the start, where no call is done
 unfoldable pub fresh : Run
 fresh = record { done = replicate 224 false }
 
@@ -21,7 +21,7 @@ advanced run c n =
     cond (eqb n 0) (record { run = record { done = set (run .done) c true }; number = 0 })
     (record { run = run; number = n })
 
--- an unsound table is refused first, by 1 to 7, then the call by 11 to 17
+-- the table's number, 1 to 7, where it has one; else the call's, 11 to 17 or 0
 unfoldable pub taken : List ℕ → Run → ℕ → Taken
 taken t run c =
     advanced run c (cond (eqb (refusal t) 0) (refusalAt (shapeOf t) (marks (run .done)) c) (refusal t))

@@ -29,7 +29,7 @@ pub struct Taken {
 }
 
 impl Run {
-    // At the start nothing has been done.
+    // The start, where no call is done.
     pub fn new() -> Run
         ensures { λ r. ⌜ r ≡ fresh ⌝ }
     {

@@ -1,4 +1,4 @@
-// The verdict on the firmware's own schedule: a list of records, each a kind and a number.
+// The verdict on the firmware's own schedule, a lent slice of records: SPECIFICATION, Records.
 ghost use mathlib.Core.Path.{_≡_};
 ghost use mathlib.Core.Bool.{cond};
 ghost use Prim.Native.Nat.{_+_, _<_};
@@ -40,7 +40,7 @@ fn within(number: usize, count: usize, first: usize, none: usize) -> usize
     none
 }
 
-// The call number of a record; N, which is no call, for a kind above 2 or a number not below its count.
+// The call number of a record; N, which is no call, where its kind or its number names none.
 fn call_number(table: &[u8], given: Record) -> usize
     ensures { λ r. ⌜ r ≡ numbered (shapeOf (now (table .entry))) given ⌝ }
 {

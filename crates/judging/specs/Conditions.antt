@@ -1,4 +1,4 @@
--- The conditions of one call where a set of calls is done, by rising number from 11.
+-- The conditions of one call where a set of calls is done, by rising number: SPECIFICATION, Judging 4.
 use mathlib.Core.Bool.{Bool, not, _&&_}
 use Prim.Native.Nat.{ℕ}
 use lib.Dec.{eqb}

@@ -24,7 +24,7 @@ use Rattle.judging.specs.Place.{verdict-place}
 use Rattle.judging.specs.Kept.{passes-iff}
 
 module _ (t : List ℕ) where
-  -- a given order is passed exactly when the table is sound and the list keeps the rules
+  -- the verdict is a pass exactly where the table is sound and the list keeps the rules
   pub passed-keeps : (l : List ℕ)
       → (verdictOf t l .number ≡ 0)
       ↔ ((refusal t ≡ 0) × Keeps (total (shapeOf t)) (precedes (shapeOf t)) l)
@@ -33,7 +33,7 @@ module _ (t : List ℕ) where
     (λ (z, k). passed-iff t l .1 (z, passes-iff (shapeOf t) (passed-sound t z .wired) l .1 k)),
   )
 
-  -- the same of an answer: "passed exactly when each call's conditions hold at its place and nothing is missing"
+  -- the same of an answer, in the declared words of what it is to pass
   pub passed-exactly : (l : List ℕ) (r : Answer) → r ≡ verdictOf t l
       → (r .number ≡ 0) ↔ (Sound t × Passes (shapeOf t) none l)
   passed-exactly l r e = (

@@ -126,7 +126,7 @@ module _ (s : Shape) (ok : Wired s) where
       passes-cons s done c l (f .1, allowed done c (f .0) tm (f .1) (f .2))
       (follows→passes (add c done) l (timely-add done c tm (f .2)) (f .3))
 
-  -- demand 2: each call's conditions hold at its place and nothing is missing, exactly where the rules are kept
+  -- a list passes, place by place, exactly where it keeps the rules: SPECIFICATION, Judging 9
   pub passes-iff : (l : List ℕ) → Passes s none l ↔ Keeps (total s) (precedes s) l
   passes-iff l = (
     (λ p. follows→keeps (total s) (precedes s) l (passes→follows none l p)),

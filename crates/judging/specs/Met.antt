@@ -44,7 +44,7 @@ is-not true t = tt
 is-not false t = t
 
 module _ (s : Shape) (done : ℕ → Bool) where
-  -- ---- each fault against the sentence that it breaks
+  -- ---- each fault against the condition that it breaks
 
   early-no : (u : ℕ) → early s done u ≡ false → (x : ℕ) → x < s .inputs → s .inputOwner x ≡ u → s .kind x ≡ 0
       → T (not (done (setNo s x)))

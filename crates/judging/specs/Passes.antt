@@ -1,4 +1,4 @@
--- What it is for an order to pass, declared by places: each call's conditions hold there, nothing is missing.
+-- What it is for an order to pass, declared by places: SPECIFICATION, Judging 9.
 use mathlib.Core.Path.{_≡_}
 use mathlib.Core.Bool.{Bool, not}
 use mathlib.Core.List.{List, [], _∷_}
@@ -19,15 +19,15 @@ after done (c ∷ l) = after (add c done) l
 module _ (s : Shape) where
   -- what a call asks of the calls done, by its kind
   abbrev pub Allows : (ℕ → Bool) → Call → Type 0
-  -- none of the unit's delayed inputs has been set; all its reactive inputs have
+  -- no delayed input of the unit is set, and every reactive one is
   Allows done (Step u) =
       ((x : ℕ) → x < s .inputs → s .inputOwner x ≡ u → s .kind x ≡ 0 → T (not (done (setNo s x))))
       × ((x : ℕ) → x < s .inputs → s .inputOwner x ≡ u → s .kind x ≡ 1 → T (done (setNo s x)))
-  -- the unit has stepped; all inputs that feed the output have been set
+  -- the output's unit has stepped, and every input that feeds the output is set
   Allows done (Get y) =
       T (done (stepNo (s .outputOwner y)))
       × ((k : ℕ) → k < s .feeds → s .feedOutput k ≡ y → T (done (setNo s (s .feedInput k))))
-  -- its source has been got
+  -- the input's source has been got
   Allows done (Set x) = T (done (getNo s (s .source x)))
   Allows done NoCall = ⊥
 
@@ -36,7 +36,7 @@ module _ (s : Shape) where
   Meets done c = T (not (done c)) × Allows done (callOf s c)
 
   -- from what is done on, each call meets its conditions at its place, and all N calls are done in the end;
-  -- an order passes from `none`, and then that is "N calls were taken"
+  -- an order passes from `none`, and then that means that N calls were taken
   pub record Passes (done : ℕ → Bool) (l : List ℕ) : Type 0 where
     pub meets : (i : ℕ) → i < length l → Meets (after done (take i l)) (getD l i 0)
     pub whole : (c : ℕ) → c < total s → T (after done l c)

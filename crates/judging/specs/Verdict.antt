@@ -1,4 +1,4 @@
--- The verdict on a list of calls: the table first, then each call in turn.
+-- The verdict on a list of calls, the table first, then each call in turn: SPECIFICATION, Judging 7.
 use mathlib.Core.Bool.{Bool, cond}
 use mathlib.Core.List.{List, [], _∷_}
 use Prim.Native.Nat.{ℕ, suc}
@@ -10,12 +10,12 @@ use Rattle.table.specs.Packed.{shapeOf}
 use Rattle.table.specs.Check.{refusal}
 use Rattle.judging.specs.Conditions.{refusalAt}
 
--- an answer is a number and a place
+-- the answer of this number and this place
 abbrev pub answer : ℕ → ℕ → Answer
 answer n k = record { number = n; place = k }
 
 module _ (s : Shape) where
-  -- the order has ended with k calls taken: passing returns N, else 18 gives the order's length as place
+  -- the order has ended with k calls taken: 0 where these are N, else 18; k is the place
   unfoldable pub atEnd : ℕ → Answer
   atEnd k = answer (cond (eqb k (total s)) 0 18) k
 
@@ -25,6 +25,6 @@ module _ (s : Shape) where
   verdictFrom done (c ∷ l) k =
       cond (eqb (refusalAt s done c) 0) (verdictFrom (add c done) l (suc k)) (answer (refusalAt s done c) k)
 
--- an unsound table is refused first, by 1 to 7 with place 0; at the start nothing has been done
+-- 1 to 7 with place 0 for an unsound table; else the calls in turn, from where none is done
 unfoldable pub verdictOf : List ℕ → List ℕ → Answer
 verdictOf t order = cond (eqb (refusal t) 0) (verdictFrom (shapeOf t) none order 0) (answer (refusal t) 0)

@@ -1,4 +1,4 @@
--- The lister's example of document 01, a cycle and a refusal, computed.
+-- The example of SPECIFICATION, Lister 7, a cycle and two refusals, computed.
 use Prim.Native.Nat.{ℕ}
 use mathlib.Core.Path.{_≡_, refl}
 use mathlib.Core.List.{List, [], _++_}

@@ -1,4 +1,4 @@
--- What the lister prints of a text.
+-- What the lister prints of a text: SPECIFICATION, Lister.
 use Prim.Native.Nat.{ℕ}
 use mathlib.Core.Bool.{cond}
 use mathlib.Core.List.{List}
@@ -10,7 +10,7 @@ use Rattle.grammar.specs.Opening.{linesOf}
 use Rattle.sorter.specs.Ordering.{ordering}
 use Rattle.printing.specs.Entries.{outcomeText, refusalText}
 
--- "It reads a text table": a refusal, or what ordering the packed table gives, with names from the lines;
+-- a refusal, or what ordering the packed table gives, with names from the lines;
 -- 644 is the greatest packed length and 224 the greatest N, so that 34 and 8 do not arise
 unfoldable pub listing : List ℕ → List ℕ
 listing t =

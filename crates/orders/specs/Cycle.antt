@@ -1,4 +1,4 @@
--- What a cycle is: declared by places, apart from any procedure.
+-- What a cycle is, declared by places: SPECIFICATION, Order and cycle 3.
 use mathlib.Core.Bool.{Bool}
 use mathlib.Core.List.{List}
 use Prim.Native.Nat.{ℕ, suc, _-_, _<_}
@@ -6,7 +6,7 @@ use lib.Dec.{T}
 use lib.ListN.{length, getD}
 
 module _ (N : ℕ) (pred : ℕ → ℕ → Bool) where
-  -- "a list of one or more calls, each a direct predecessor of the next and the last of the first"
+  -- calls in a ring: each comes directly before the one behind it, and the last before the first
   pub record Cycle (l : List ℕ) : Type 0 where
     pub any : 0 < length l
     pub calls : (i : ℕ) → i < length l → getD l i 0 < N

@@ -1,4 +1,4 @@
--- What it is for a list to keep the rules: declared by places, apart from any procedure.
+-- What it is for a list to keep the rules, declared by places: SPECIFICATION, Order and cycle 1.
 use mathlib.Core.Path.{_≡_}
 use mathlib.Core.Bool.{Bool}
 use mathlib.Core.List.{List}
@@ -7,7 +7,7 @@ use lib.Dec.{T}
 use lib.ListN.{length, getD}
 
 module _ (N : ℕ) (pred : ℕ → ℕ → Bool) where
-  -- one of "all lists that hold each of the N calls once and keep the rules"
+  -- the N calls, each at one place and behind its direct predecessors
   pub record Keeps (l : List ℕ) : Type 0 where
     -- at each place stands one of the N calls
     pub calls : (i : ℕ) → i < length l → getD l i 0 < N

@@ -1,4 +1,4 @@
--- The order's procedure: at each place the lowest ready call, until none is ready.
+-- The order's procedure, at each place the lowest ready call until none is: SPECIFICATION, Order and cycle 4.
 use mathlib.Core.Bool.{Bool, not, _&&_, cond}
 use mathlib.Core.List.{List, [], _∷_}
 use Prim.Native.Nat.{ℕ, zero, suc}
@@ -12,11 +12,11 @@ abbrev pub lacks : (ℕ → ℕ → Bool) → (ℕ → Bool) → ℕ → ℕ →
 lacks pred done c a = pred a c && not (done a)
 
 module _ (N : ℕ) (pred : ℕ → ℕ → Bool) where
-  -- "not yet placed", and its "direct predecessors have all been placed"
+  -- c has no place, and none of its direct predecessors lacks one
   unfoldable pub ready : (ℕ → Bool) → ℕ → Bool
   ready done c = not (done c) && not (some (lacks pred done c) N)
 
-  -- "the lowest-numbered call" that is ready; N where none is
+  -- the lowest ready call; N where none is ready
   unfoldable pub nextCall : (ℕ → Bool) → ℕ
   nextCall done = leastFrom (ready done) N 0
 

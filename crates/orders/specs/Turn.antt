@@ -1,4 +1,4 @@
--- "The cycle shown", listed from its lowest number.
+-- The cycle shown, turned to its lowest number: SPECIFICATION, Order and cycle 7.
 use mathlib.Core.Bool.{Bool}
 use mathlib.Core.List.{List, _++_}
 use Prim.Native.Nat.{ℕ}
@@ -19,6 +19,6 @@ lowestOf N l = leastFrom (among l) N 0
 unfoldable pub lowestPlace : ℕ → List ℕ → ℕ
 lowestPlace N l = leastFrom (λ i. eqb (getD l i 0) (lowestOf N l)) (length l) 0
 
--- "listed in precedence order, beginning with its lowest number": the cycle of what remains
+-- the cycle of what remains, in precedence order, its lowest number first
 unfoldable pub shown : (N : ℕ) (pred : ℕ → ℕ → Bool) → (ℕ → Bool) → List ℕ
 shown N pred done = turn (lowestPlace N (met N pred done)) (met N pred done)

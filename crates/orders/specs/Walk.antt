@@ -1,4 +1,4 @@
--- "The cycle shown": the backward walk through the calls that remain.
+-- The backward walk through the calls that remain: SPECIFICATION, Order and cycle 6.
 use mathlib.Core.Bool.{Bool, false, not, _||_, cond}
 use mathlib.Core.List.{List, [], _∷_}
 use Prim.Native.Nat.{ℕ, zero, suc}
@@ -17,20 +17,20 @@ upto c [] = []
 upto c (x ∷ l) = cond (eqb c x) (x ∷ []) (x ∷ upto c l)
 
 module _ (N : ℕ) (pred : ℕ → ℕ → Bool) (done : ℕ → Bool) where
-  -- "its lowest remaining direct predecessor"; N where it has none
+  -- the lowest of its direct predecessors that remain; N where none does
   unfoldable pub lowestBefore : ℕ → ℕ
   lowestBefore c = leastFrom (lacks pred done c) N 0
 
-  -- "until a call is met a second time"; seen has the newest first, so it stands in precedence order;
+  -- on to a call where the walk has been; seen has the newest first, so it stands in precedence order;
   -- n bounds the visits: of N + 1 calls one is met again
   unfoldable pub walk : ℕ → List ℕ → ℕ → List ℕ
   walk zero seen c = []
   walk (suc n) seen c = cond (ltb c N) (cond (among seen c) (upto c seen) (walk n (c ∷ seen) (lowestBefore c))) []
 
-  -- "the lowest remaining call"; N where none remains
+  -- where the walk begins: the lowest call that remains; N where none does
   unfoldable pub lowestLeft : ℕ
   lowestLeft = leastFrom (λ c. not (done c)) N 0
 
-  -- "the calls from that one's first visit on"; none where the walk meets no call again
+  -- the call met again and those visited after it, newest first; none where the walk meets no call again
   unfoldable pub met : List ℕ
   met = walk (suc N) [] lowestLeft

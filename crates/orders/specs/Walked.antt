@@ -34,7 +34,7 @@ module _ (N : ℕ) (pred : ℕ → ℕ → Bool) (done : ℕ → Bool) where
 
 -- ---- the front of what was seen, from a call met again
 module _ (N : ℕ) (pred : ℕ → ℕ → Bool) where
-  -- each a direct predecessor of the next, c of the first
+  -- each comes directly before the one behind it, and c before the first
   abbrev Chain : ℕ → List ℕ → Type 0
   Chain c [] = Unit {0}
   Chain c (x ∷ l) = (x < N) × T (pred c x) × Chain x l

@@ -11,7 +11,7 @@ use Rattle.table.specs.Outcome.{Outcome, outcome}
 use Rattle.calls.specs.Precedence.{precedes}
 use Rattle.orders.specs.Sort.{placed}
 
--- N, and the calls of a table that can be placed, by the procedure of "The order"
+-- N, and the calls of a table that can be placed: SPECIFICATION, Order and cycle 4
 abbrev pub callCount : List ℕ → ℕ
 callCount t = total (shapeOf t)
 

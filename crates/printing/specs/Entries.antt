@@ -1,4 +1,4 @@
--- The lines of an order, of a cycle and of a refusal.
+-- The lines of an order, of a cycle and of a refusal: SPECIFICATION, Lister 2 to 4.
 use Prim.Native.Nat.{ℕ, suc}
 use mathlib.Core.Bool.{cond}
 use mathlib.Core.List.{List, [], _∷_, _++_}
@@ -13,13 +13,13 @@ use Rattle.calls.specs.Number.{callIn}
 use Rattle.pen.specs.Decimal.{decimal}
 use Rattle.printing.specs.Printed.{printed}
 
--- "`refused`, number, line"
+-- the one line of a text that is refused
 unfoldable pub refusalText : ℕ → ℕ → List ℕ
 refusalText n k = printed (ascii "refused" ∷ decimal n ∷ decimal k ∷ [])
 
 -- with the lines that declare units, outputs and inputs: field 1 names the unit, field 2 the port
 module _ (units outputs inputs : List (List (List ℕ))) where
-  -- "place, `step`/`get`/`set`, unit name, port name or `-` for a step"; nothing for what is no call
+  -- a call by its place, its word, its unit and its port, which a step has not; nothing for what is no call
   unfoldable pub entry : ℕ → Call → List ℕ
   entry k (Step u) = let f = getD units u [] in printed (decimal k ∷ ascii "step" ∷ word f 1 ∷ ascii "-" ∷ [])
   entry k (Get y) = let f = getD outputs y [] in printed (decimal k ∷ ascii "get" ∷ word f 1 ∷ word f 2 ∷ [])
@@ -31,7 +31,7 @@ module _ (units outputs inputs : List (List (List ℕ))) where
   entries k [] = []
   entries k (c ∷ cs) = entry k (callIn (length units) (length outputs) (length inputs) c) ++ entries (suc k) cs
 
-  -- "`order` and N, then per call", "`cycle` and its length, then lines alike"
+  -- under a word and how many calls there are, a line for each of them
   unfoldable pub callsText : List ℕ → List ℕ → List ℕ
   callsText w cs = printed (w ∷ decimal (length cs) ∷ []) ++ entries 0 cs
 

@@ -12,7 +12,7 @@ use Rattle.grammar.specs.Draft.{Feed}
 use Rattle.grammar.specs.Lines.{kindOf}
 use Rattle.grammar.specs.Reading.{pairs}
 
--- "Numbers are given in line order": the place, from 0, of the unit n among the `unit` lines, or their count
+-- the place, from 0, of the unit n among the `unit` lines, or their count
 unfoldable pub unitNumber : List Row → List ℕ → ℕ
 unitNumber fs n = place (λ f. same (word f 1) n) (linesOf fs (ascii "unit"))
 
@@ -50,7 +50,7 @@ feedNumbers fs f = record {
   output = outputNumber fs (word f 1) (word f 3);
 }
 
--- "The packed table": counts, owners of outputs and of inputs, kinds, sources, feeds
+-- the parts of the packed table: counts, owners of outputs and of inputs, kinds, sources, feeds
 unfoldable pub numbered : List Row → List ℕ
 numbered fs =
     let units = linesOf fs (ascii "unit") in

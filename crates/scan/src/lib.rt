@@ -3,7 +3,7 @@ ghost use mathlib.Core.Path.{_≡_};
 ghost use Rattle.grammar.specs.Words.{lf, allowed};
 ghost use Rattle.grammar.specs.Rows.{times, firstBad};
 
-// a to z, 0 to 9, underscore, tab, LF.
+// Letters a to z, digits, underscore, tab, LF: SPECIFICATION, Text 1.
 fn is_allowed(b: u8) -> bool
     ensures { λ r. ⌜ r ≡ allowed b ⌝ }
 {

@@ -1,4 +1,4 @@
--- Demand 2, first half: for a sound table and enough room, an order exactly where no cycle exists, else a cycle.
+-- Demand 2, first half: a sound table and room give an order exactly where no cycle exists, else a cycle.
 use mathlib.Core.Path.{_≡_, sym, ap, _∙_}
 use mathlib.Core.Logic.{_↔_}
 use mathlib.Core.List.{List}

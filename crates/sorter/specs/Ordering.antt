@@ -1,4 +1,4 @@
--- What `order` answers, and the bytes that go to the front of the caller's buffer.
+-- What `order` answers, and the bytes at the front of the caller's buffer: SPECIFICATION, Order and cycle 9.
 use mathlib.Core.Bool.{cond}
 use mathlib.Core.List.{List, []}
 use Prim.Native.Nat.{ℕ}
@@ -12,11 +12,11 @@ use Rattle.orders.specs.Turn.{shown}
 use Rattle.table.specs.Outcome.{Outcome, outcome}
 use Rattle.placing.specs.Placing.{callCount, placedOf}
 
--- the cycle of what remains, by the walk of "The cycle shown"
+-- the cycle of what remains
 unfoldable pub shownOf : List ℕ → List ℕ
 shownOf t = shown (callCount t) (precedes (shapeOf t)) (among (placedOf t))
 
--- 9 with the cycle's length; 10 "nothing ready and no cycle found", which no table gives (`order-else` of Demand)
+-- 9 with the cycle's length; 10 where the walk lists nothing, which no table gives (`order-else` of Demand)
 unfoldable pub stopped : List ℕ → Outcome
 stopped t = cond (eqb (length (shownOf t)) 0) (outcome 10 0 []) (outcome 9 (length (shownOf t)) (shownOf t))
 
@@ -24,7 +24,7 @@ stopped t = cond (eqb (length (shownOf t)) 0) (outcome 10 0 []) (outcome 9 (leng
 unfoldable pub settled : List ℕ → Outcome
 settled t = cond (eqb (length (placedOf t)) (callCount t)) (outcome 0 (callCount t) (placedOf t)) (stopped t)
 
--- 1 to 7; then 8 "order buffer under N bytes"; then 0, 9 or 10
+-- 1 to 7; then 8 where there is no room for N calls; then 0, 9 or 10
 unfoldable pub ordering : List ℕ → ℕ → Outcome
 ordering t room =
     cond (eqb (refusal t) 0)

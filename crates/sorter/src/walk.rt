@@ -46,7 +46,7 @@ fn lowest_left(marks: &[u8; 224], count: usize) -> usize
     c
 }
 
-// Walks back until a call is met a second time; the path is filled from its end, so it reads forward.
+// Walks back to a call where it has been; the path is filled from its end, so it reads forward.
 pub fn walk_back(table: &[u8], count: usize, marks: &[u8; 224], path: &mut [u8]) -> Met
     requires { ⌜ Sound (now table) ⌝ }
     requires { ⌜ count ≡ callCount (now table) ⌝ }

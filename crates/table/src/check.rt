@@ -1,4 +1,4 @@
-// The check of a packed table, in document 01's order of checks.
+// The check of a packed table: SPECIFICATION, Packed table 6.
 ghost use mathlib.Core.Path.{_≡_};
 ghost use Prim.Native.Nat.{_+_, _*_, _≤_, _<_};
 ghost use lib.ListN.{length};

@@ -82,21 +82,21 @@ pub fn call_count(table: &[u8]) -> usize
     unit_count(table) + output_count(table) + input_count(table)
 }
 
-// The owner unit of each output.
+// The unit that owns each output.
 pub fn output_owners(table: &[u8]) -> &[u8]
     ensures { λ r. ⌜ now r ≡ outputOwners (now (table .entry)) ⌝ }
 {
     stretch(table, 4, output_count(table))
 }
 
-// The owner unit of each input.
+// The unit that owns each input.
 pub fn input_owners(table: &[u8]) -> &[u8]
     ensures { λ r. ⌜ now r ≡ inputOwners (now (table .entry)) ⌝ }
 {
     stretch(table, 4 + output_count(table), input_count(table))
 }
 
-// The kind of each input, 0 delayed or 1 reactive.
+// Each input's kind: 0 delayed, 1 reactive.
 pub fn input_kinds(table: &[u8]) -> &[u8]
     ensures { λ r. ⌜ now r ≡ kinds (now (table .entry)) ⌝ }
 {
@@ -104,7 +104,7 @@ pub fn input_kinds(table: &[u8]) -> &[u8]
     stretch(table, 4 + output_count(table) + x, x)
 }
 
-// The source output of each input.
+// Each input's source, an output.
 pub fn input_sources(table: &[u8]) -> &[u8]
     ensures { λ r. ⌜ now r ≡ sources (now (table .entry)) ⌝ }
 {

@@ -10,7 +10,7 @@ use crate::walk;
 use crate::whole;
 use notes::Counts;
 
-// What is refused at the end: 33 no unit, 31 an input without join.
+// Once all lines are noted: 33 where there is no unit, 31 where an input has no join.
 fn close(text: &[u8], places: &[u16; 320], slots: &[u8; 896], counts: Counts) -> Noted
     requires { ⌜ Fit (now text) (now places) (now slots) counts ⌝ }
     ensures { λ r. ⌜ Closed (now (text .entry)) (now (places .entry)) (now (slots .entry)) counts r ⌝ }

@@ -1,4 +1,4 @@
--- Demand 3 in the words of document 00, with whole numbers for values and states.
+-- Demand 3 with whole numbers for values and states: SPECIFICATION, Equations 5.
 use mathlib.Core.Path.{_≡_}
 use mathlib.Core.List.{List}
 use Prim.Native.Nat.{ℕ, suc, _<_}

@@ -1,4 +1,4 @@
--- The run of an order with values, defined call by call.
+-- What a list of calls does to states and values, one by one: SPECIFICATION, Equations 4.
 use mathlib.Core.Bool.{cond}
 use mathlib.Core.List.{List, [], _∷_}
 use Prim.Native.Nat.{ℕ, suc}
@@ -18,20 +18,20 @@ pub record Held (Val : Type 0) : Type 0 where
 abbrev pub World : Type 0 → Type 0
 World Val = ℕ → Held Val
 
--- unit or port a goes from the old time to the new with this value, and nothing else moves
+-- unit or port a holds this value, one step later; all else is as it was
 abbrev pub moved : {Val : Type 0} → World Val → ℕ → Val → World Val
 moved w a v b = cond (eqb b a) (record { value = v; time = suc (w a .time) }) (w b)
 
 module _ {Val : Type 0} (s : Shape) (m : Rules Val) where
   abbrev pub acts : World Val → Call → World Val
-  -- a step applies the step rule to the inputs as they then stand
+  -- a step: its unit's rule on the state and the inputs that it finds
   acts w (Step u) =
       moved w (stepNo u) (m .stepRule u (w (stepNo u) .value) (ofUnit s u (λ x. w (setNo s x) .value)))
-  -- a get applies the output's rule
+  -- a get: its output's rule on the state and the feeding inputs that it finds
   acts w (Get y) =
       moved w (getNo s y)
       (m .outputRule y (w (stepNo (s .outputOwner y)) .value) (feeding s y (λ x. w (setNo s x) .value)))
-  -- a set copies the source's value
+  -- a set: what its source holds
   acts w (Set x) = moved w (setNo s x) (w (getNo s (s .source x)) .value)
   acts w NoCall = w
 

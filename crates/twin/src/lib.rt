@@ -1,1 +1,1 @@
-// Theory alone: rules of models, the run of an order with values, the equations, and that every passed order solves them.
+// Theory alone: rules of models, the run of a list of calls, the equations, and that passed orders solve them.
