@@ -1,5 +1,6 @@
 #!/usr/bin/env python3
-"""Holds the pages to the tree: links, paths and cited rules lead somewhere, and every number has its line.
+"""Holds the pages to the tree: links, paths and cited rules lead somewhere, every number has its line, and every
+must-fail edit stands in EDITS.md (which `tests/pages.py --write` writes) and is named in PROMISES.md.
 
 A page cites a rule by a link to its section and its number, a source by words: SPECIFICATION, Precedence 3."""
 import re
@@ -11,6 +12,7 @@ PAGES = [ROOT / "README.md", *sorted((ROOT / "docs").glob("*.md")), *sorted((ROO
 ROOMS = ("crates", "tests", "bench", "include", "demo")
 SPECIFICATION = ROOT / "docs/SPECIFICATION.md"
 NUMBERS = [*range(0, 19), *range(20, 35)]
+EDITS = ROOT / "docs/EDITS.md"
 CITED = r"((?:(?: |, | and | to )\d+\b)*)"  # the rules behind a section's name
 
 
@@ -78,7 +80,36 @@ def misnamed(source, known):
     return wrong
 
 
+def edits_page():
+    """All must-fail edits: what each does, and the fact that it is refused by."""
+    lines = ["# Edits that must fail", "",
+             "Each file `crates/NAME/must-fail/LABEL.edit` changes a few words of its crate. The prover must refuse the crate with "
+             "it, and for the reason that the edit gives, which the gate looks at (`tests/edits.py`): the first error is a fact of "
+             "the file named, a computed example or a statement on a contract; or the program named, run on the edited sources, "
+             "writes something else. [PROMISES.md](PROMISES.md) says which promise each edit breaks. "
+             "This page is written by `tests/pages.py --write`.", "",
+             "| edit | what it does | refused by |", "|---|---|---|"]
+    for edit in sorted(ROOT.glob("crates/*/must-fail/*.edit")):
+        text = read(edit)
+        reasons = re.findall(r"^(?:at: (.+)|run: (.+))$", text, re.M)
+        reasons = "; ".join(f"`{at}`" if at else f"a run of `{run}`" for at, run in reasons)
+        lines.append(f"| `{edit.parent.parent.name}/{edit.stem}` | {text.splitlines()[0]} | {reasons} |")
+    return "\n".join(lines) + "\n"
+
+
+def unpromised():
+    """Must-fail edits that PROMISES.md does not name, and those it names that are not there."""
+    text = read(ROOT / "docs/PROMISES.md")
+    edits = [(edit.parent.parent.name, edit.stem) for edit in sorted(ROOT.glob("crates/*/must-fail/*.edit"))]
+    crates = {crate.name for crate in (ROOT / "crates").iterdir()}
+    lost = [f"{crate}/{label}" for crate, label in re.findall(r"`(\w+)/(\w+)`", text)
+            if crate in crates and (crate, label) not in edits]
+    return lost + [f"{crate}/{label}" for crate, label in edits if not re.search(rf"`({crate}/)?{label}`", text)]
+
+
 def main():
+    if sys.argv[1:] == ["--write"]:
+        EDITS.write_text(edits_page(), encoding="utf-8")
     known = sections()
     rules = {anchor(name): numbers for name, numbers in known.items()}
     failed = [f"SPECIFICATION.md: a rule of {name} stands twice"
@@ -96,6 +127,9 @@ def main():
     named = [int(number) for number in re.findall(r"^    OORLICHDAY_\w+ = (\d+)", headers, re.M)]
     if named != NUMBERS:
         failed.append(f"include: the numbers named are {named}")
+    failed += [f"PROMISES.md: {edit} is named there and is not in the tree, or the other way round" for edit in unpromised()]
+    if not EDITS.exists() or read(EDITS) != edits_page():
+        failed.append("EDITS.md is not what the tree has: look at the change, then tests/pages.py --write")
     print("\n".join(failed) if failed else f"{len(PAGES)} pages")
     print(f"{0 if failed else 1} passed, {len(failed)} failed")
     sys.exit(bool(failed))
