@@ -1,13 +1,13 @@
 #!/usr/bin/env bash
-# Runs the lister on stored texts and compares what it prints; its last line is 'N passed, M failed'.
+# Runs the lister on the texts of tests/lister/ and compares what it prints; its last line is 'N passed, M failed'.
 set -euo pipefail
 cd "$(dirname "$0")/.."
 source tests/machine.sh
+source tests/tally.sh
 lister=target/bin/lister
 [ -x "$lister" ] || rt check lister >&2
 work=$(mktemp -d)
 trap 'rm -rf "$work"' EXIT
-passed=0 failed=0
 
 # judge NAME EXPECTED ERRORS: what was printed on standard output, and how many lines on standard error.
 judge() {
@@ -26,6 +26,7 @@ listed() {
     judge "$1" "$3" 0
 }
 
+part "table of the stored runs" tests/stored.py
 for text in tests/lister/*.in; do
     listed "$(basename "$text" .in)" "$text" "${text%.in}.out"
 done
@@ -54,5 +55,4 @@ judge "closed standard input" "$work/nothing" 1
 "${RUN[@]}" "$lister" <. >"$work/out" 2>"$work/err" || true
 judge "a folder as standard input" "$work/nothing" 1
 
-echo "$passed passed, $failed failed"
-[ "$failed" -eq 0 ] && [ "$passed" -gt 0 ]
+finish

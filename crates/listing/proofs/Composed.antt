@@ -18,6 +18,8 @@ use Rattle.printing.specs.Entries.{refusalText}
 use Rattle.printing.specs.Indexed.{outcomeOf}
 use Rattle.listing.specs.Listing.{listing}
 use Rattle.listing.proofs.Counted.{all-units, all-outputs, all-inputs}
+-- the examples come before the laws: a definition that lists something else fails on one of them
+use Rattle.listing.specs.Examples
 
 module _ (t before after : List ℕ) (a : Told)
     (r : (a ≡ record { number = reading 644 t .number; place = reading 644 t .place })

@@ -23,6 +23,8 @@ use Rattle.printing.specs.Entries.{entry}
 use Rattle.printing.specs.Places.{lineFor, lineAt, textOf}
 use Rattle.printing.specs.Indexed.{Indexed, unitLines, outputLines, inputLines, entryOf}
 use Rattle.printing.specs.declared.call.Line.{Line}
+-- the examples come before the laws: a definition that prints something else fails on one of them
+use Rattle.printing.specs.Computed
 
 -- ---- a call stands in its range
 

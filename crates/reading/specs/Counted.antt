@@ -1,7 +1,7 @@
--- How many lines a text has, and that every byte of a text ended by LF stands on one of them.
+-- How many lines a text has; every byte of a text ended by LF stands on one of them.
 use Prim.Native.Nat.{ℕ, zero, suc, _-_, _<_, _≤_}
 use mathlib.Core.Path.{_≡_, refl, ap, _∙_}
-use mathlib.Core.Bool.{Bool, true, false, cond, _||_}
+use mathlib.Core.Bool.{Bool, true, false, cond}
 use mathlib.Core.List.{List, [], _∷_}
 use native.Mathlib.Omega.{arith}
 use lib.ListN.{length, getD, take}
@@ -11,10 +11,7 @@ use borrow.Author.Tests.{eq-eqb, ne-eqb}
 use Rattle.grammar.specs.Words.{tab, lf}
 use Rattle.grammar.specs.Rows.{rows, grown, parted, times, lineOf}
 use Rattle.grammar.specs.Opening.{Row}
-
--- the lines that LF ends, and one more for a last line that is not ended
-unfoldable pub lineCount : List ℕ → ℕ
-lineCount t = cond (eqb (length t) 0 || eqb (getD t (length t - 1) 0) lf) (times lf t) (suc (times lf t))
+use Rattle.reading.specs.WhichLine.{lineCount}
 
 grown-many : (x : ℕ) (rs : List Row) → length (grown x rs) ≡ length rs
 unfolding grown

@@ -15,6 +15,8 @@ pub mod First
 pub mod Numbered
 pub mod InOrder
 pub mod Loose
+pub mod WhichLine
+pub mod Computed
 pub mod Counted
 pub mod Refused
 pub mod Lined

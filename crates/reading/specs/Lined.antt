@@ -1,4 +1,4 @@
--- The line of a refusal.
+-- A text that is refused: its refusal names the line that is said.
 use Prim.Native.Nat.{ℕ, suc, _+_, _-_, _≤_}
 use mathlib.Core.Path.{_≡_, refl, ap, sym, _∙_, subst}
 use mathlib.Core.Logic.{_⊎_, inl, inr, _↔_}
@@ -19,26 +19,9 @@ use Rattle.reading.specs.Reads.{Closes, closes-33, closes-31, closes-34,
 use Rattle.reading.specs.Numbers.{isLoose}
 use Rattle.reading.specs.First.{loose-below}
 use Rattle.reading.specs.Loose.{loose-line}
-use Rattle.reading.specs.Counted.{lineCount, line-within, count-some, count-rows, last-line}
-use Rattle.reading.specs.Refused.{refusals, LineNumber, refusals-numbers}
-
-pub record Lined (t : List ℕ) (r : Reading) : Type 0 where
-  -- the line is 0 for 20 and 34 alone
-  pub none : (r .place ≡ 0) ↔ ((r .number ≡ 20) ⊎ (r .number ≡ 34))
-  -- every other is a line of the text, counted from 1
-  pub within : r .place ≤ lineCount t
-  -- 21 is at the last line, which is not ended
-  pub last : r .number ≡ 21 → r .place ≡ lineCount t
-  -- 22 is at the line of the first byte that is not allowed
-  pub byte : r .number ≡ 22 → r .place ≡ lineOf t (firstBad t)
-  -- 23 and 33 are at line 1
-  pub first : (r .number ≡ 23) ⊎ (r .number ≡ 33) → r .place ≡ 1
-  -- 31 is at the first `in` line whose input no line joins
-  pub loose : r .number ≡ 31 → r .place ≡ suc (place (isLoose (rows t)) (rows t))
-  -- 24 to 30 and 32 are at the first line below line 1 that is refused, by its number
-  pub refused : 24 ≤ r .number → r .number ≤ 32 → (r .number ≡ 31 → ⊥)
-      → let numbers = refusals blank 2 (drop 1 (rows t)) in let i = place (λ n. not (eqb n 0)) numbers in
-      (r .place ≡ 2 + i) × (r .number ≡ getD numbers i 0)
+use Rattle.reading.specs.WhichLine.{lineCount, refusals, Lined}
+use Rattle.reading.specs.Counted.{line-within, count-some, count-rows, last-line}
+use Rattle.reading.specs.Refused.{LineNumber, refusals-numbers}
 
 -- ---- a number that is not 20 or 34, at a line that is not 0
 some : (n k : ℕ) → (n ≡ 20 → ⊥) → (n ≡ 34 → ⊥) → 1 ≤ k → (k ≡ 0) ↔ ((n ≡ 20) ⊎ (n ≡ 34))

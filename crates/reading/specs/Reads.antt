@@ -19,7 +19,7 @@ use Rattle.grammar.specs.Lines.{line}
 use Rattle.grammar.specs.Reading.{Reading, reading, lineByLine, linesFrom, ending, stopped, packed, version}
 use Rattle.reading.specs.Proper.{Proper, blank-proper}
 use Rattle.reading.specs.Kept.{line-kept}
-use Rattle.reading.specs.Refused.{refusals}
+use Rattle.reading.specs.WhichLine.{refusals}
 use Rattle.reading.specs.Takes.{line-taken, Runs, ends, goes-on}
 
 -- what is read where nothing is refused

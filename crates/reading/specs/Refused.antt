@@ -9,11 +9,7 @@ use Rattle.grammar.specs.Opening.{Row}
 use Rattle.grammar.specs.Draft.{Draft}
 use Rattle.grammar.specs.Lines.{Outcome, refuse, refused, taken, unitLine, outLine, inLine, feedLine, joinLine, line}
 use Rattle.reading.specs.Keyword.{by-keyword}
-
--- the number of each line from line k on, 0 where it is taken
-unfoldable pub refusals : Draft → ℕ → List Row → List ℕ
-refusals d k [] = []
-refusals d k (f ∷ fs) = line d k f .number ∷ refusals (line d k f .draft) (suc k) fs
+use Rattle.reading.specs.WhichLine.{refusals}
 
 -- 24 to 30 or 32, where it is refused
 abbrev pub LineNumber : ℕ → Type 0
