@@ -63,7 +63,8 @@ def fault(edit):
         return "gives no reason"
     for kind, what in reasons:
         words = what.split()
-        if kind == "run" and PROGRAMS.get(words[0]) != len(words):
+        stored = STORED / f"{words[-1]}.in"
+        if kind == "run" and (PROGRAMS.get(words[0]) != len(words) or len(words) > 1 and not stored.exists()):
             return f"no such run: {what}"
         if not (refused_at(edit, what) if kind == "at" else writes_otherwise(edit, *words)):
             return f"not refused for its reason: {kind}: {what}"
