@@ -10,6 +10,8 @@ use Rattle.sorter.specs.Ordering.{ordering}
 use Rattle.judging.specs.Verdict.{answer, verdictOf}
 use Rattle.judging.specs.Judged.{passed-N}
 use Rattle.judging.specs.Demand.{passed-keeps}
+use Rattle.judge.specs.CallByCall.{TakenInTurn}
+use Rattle.judge.specs.InTurn.{in-turn-passed}
 use Rattle.twin.specs.Rules.{Rules}
 use Rattle.twin.specs.Run.{World, run}
 use Rattle.twin.specs.Equations.{AtTime}
@@ -36,3 +38,8 @@ module _ (t : List ℕ) (room : ℕ) (given : Given t room) where
       → a < total (shapeOf t)
       → run (shapeOf t) m w order a ≡ run (shapeOf t) m w (ordering t room .bytes) a
   given-alike order p = demand-3-alike t order (ordering t room .bytes) p given-number
+
+-- demand 3 for an order that a run takes call by call
+pub in-turn-ends : (t order : List ℕ) → TakenInTurn t order → (m : Rules ℤ) (w : World ℤ) (n : ℕ)
+    → AtTime (shapeOf t) n w → Ends t m order w n
+in-turn-ends t order p = demand-3 t order (in-turn-passed t order .0 p)

@@ -1,6 +1,9 @@
 pub mod Marks
 pub mod Scans
 pub mod Taken
+pub mod CallByCall
+pub mod Answered
+pub mod InTurn
 pub mod Records
 pub mod Carried
 pub mod Determined
