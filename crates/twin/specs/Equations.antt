@@ -1,5 +1,5 @@
--- The equations of a table: old means before the step, new after it.
--- "Old inputs equal their old sources" speaks of the start alone: it is `Joined` of it, and no proof needs it.
+-- The equations of a table, from old values to new ones: SPECIFICATION, Equations 3.
+-- That joined ports are equal at the start is `Joined` of the start: it is no equation, and no proof needs it.
 use mathlib.Core.Path.{_≡_}
 use mathlib.Core.Bool.{cond}
 use Prim.Native.Nat.{ℕ, _<_}
@@ -12,14 +12,14 @@ use Rattle.twin.specs.Run.{Values, World}
 
 module _ {State Value : Type 0} (s : Shape) (m : Rules State Value) where
   pub record Solves (old new : Values State Value) : Type 0 where
-    -- new state of a unit = its step rule on its old state and its inputs, delayed ones old and reactive ones new
+    -- a state comes from the old one and the unit's inputs, of which the delayed are old and the reactive new
     pub states : (u : ℕ) → u < s .units
         → new (Step u)
         ≡ m .stepRule u (old (Step u)) (ofUnit s u (λ x. cond (eqb (s .kind x) 0) (old (Set x)) (new (Set x))))
-    -- new output = the output's rule on the unit's new state and the new values of its feeding inputs
+    -- an output comes from its unit's state and its feeding inputs, all of them new
     pub outputs : (y : ℕ) → y < s .outputs
         → new (Get y) ≡ m .outputRule y (new (Step (s .outputOwner y))) (feeding s y (λ x. new (Set x)))
-    -- new input = the new value of its source
+    -- an input has its source's new value
     pub inputs : (x : ℕ) → x < s .inputs → new (Set x) ≡ new (Get (s .source x))
 
 module _ {State Value : Type 0} (s : Shape) where

@@ -1,4 +1,4 @@
--- Each call moves its own unit or port and nothing else: after any front of a passed order exactly its calls have moved.
+-- After any front of a passed order the units and ports of its calls have moved, and no others.
 use mathlib.Core.Path.{_≡_, refl, sym, ap, subst, _∙_}
 use mathlib.Core.Logic.{_≢_}
 use mathlib.Core.List.{List, [], _∷_}

@@ -1,4 +1,4 @@
--- The rules of models: any functions of a state and of the values that document 01 lets them see.
+-- The rules of models, any functions of a state and of the values they may see: SPECIFICATION, Equations 2.
 use mathlib.Core.Bool.{Bool, cond}
 use mathlib.Core.List.{List, [], _∷_}
 use Prim.Native.Nat.{ℕ, zero, suc}
@@ -19,8 +19,8 @@ ofUnit s u value = pick (λ x. eqb (s .inputOwner x) u) (s .inputs) 0 value
 abbrev pub feeding : {Value : Type 0} → Shape → ℕ → (ℕ → Value) → List Value
 feeding s y value = pick (λ x. feedsTo s x y) (s .inputs) 0 value
 
--- for each unit a step rule on its old state and its inputs' values;
--- for each output a rule on its unit's state and its feeding inputs' values
+-- a step rule for each unit, of a state and its inputs' values;
+-- a rule for each output, of its unit's state and its feeding inputs' values
 pub record Rules (State Value : Type 0) : Type 0 where
   pub stepRule : ℕ → State → List Value → State
   pub outputRule : ℕ → State → List Value → Value

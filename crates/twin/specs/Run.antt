@@ -1,4 +1,4 @@
--- The run of an order with values, defined call by call.
+-- What a list of calls does to states and values, one by one: SPECIFICATION, Equations 4.
 use mathlib.Core.Bool.{Bool, false, cond}
 use mathlib.Core.List.{List, [], _∷_}
 use Prim.Native.Nat.{ℕ, suc}
@@ -11,7 +11,7 @@ use Rattle.calls.specs.Number.{callOf}
 use Rattle.calls.specs.Precedence.{byKind}
 use Rattle.twin.specs.Rules.{ofUnit, feeding, Rules}
 
--- what stands at a call: at a step the state of its unit, at a get or a set the value of its port
+-- what belongs to a call: to a step the state of its unit, to a get or a set the value of its port
 abbrev pub At : Type 0 → Type 0 → Call → Type 0
 At State Value (Step u) = State
 At State Value (Get y) = Value
@@ -27,11 +27,11 @@ pub record Held (A : Type 0) : Type 0 where
   pub value : A
   pub time : ℕ
 
--- what all hold
+-- what all hold, told by their calls
 abbrev pub World : Type 0 → Type 0 → Type 0
 World State Value = (k : Call) → Held (At State Value k)
 
--- whether a call moves what stands at another: its own unit or port, and nothing else
+-- whether the first call moves what belongs to the second: it moves its own unit or port alone
 unfoldable pub moves : Call → Call → Bool
 moves (Step u) = byKind (λ v. eqb v u) none none
 moves (Get y) = byKind none (λ z. eqb z y) none
@@ -39,17 +39,17 @@ moves (Set x) = byKind none none (λ z. eqb z x)
 moves NoCall = λ k. false
 
 module _ {State Value : Type 0} (s : Shape) (m : Rules State Value) where
-  -- what its call gives a unit or a port
+  -- what the call of a unit or port would give it
   abbrev pub gives : World State Value → Values State Value
-  -- a step applies the step rule to the inputs as they then stand
+  -- a step: its unit's rule on the state and the inputs that it finds
   gives w (Step u) = m .stepRule u (w (Step u) .value) (ofUnit s u (λ x. w (Set x) .value))
-  -- a get applies the output's rule
+  -- a get: its output's rule on the state and the feeding inputs that it finds
   gives w (Get y) = m .outputRule y (w (Step (s .outputOwner y)) .value) (feeding s y (λ x. w (Set x) .value))
-  -- a set copies the source's value
+  -- a set: what its source holds
   gives w (Set x) = w (Get (s .source x)) .value
   gives w NoCall = tt
 
-  -- one call: what it moves goes from the old time to the new with what is given to it, all else stays
+  -- after a call its unit or port holds what it gives, one step later; all else is as it was
   abbrev pub acts : World State Value → Call → World State Value
   acts w c k = cond (moves c k) (record { value = gives w k; time = suc (w k .time) }) (w k)
 
