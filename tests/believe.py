@@ -1,5 +1,5 @@
 #!/usr/bin/env python3
-"""Holds docs/BELIEVE.md to the sources: each file is there, its lines are counted right, the sum is under 600."""
+"""Holds docs/BELIEVE.md to the sources: each file is there, its lines are counted right, the sum is under 640."""
 import re
 import sys
 from pathlib import Path
@@ -52,7 +52,7 @@ def main():
             if counted != int(row[2]):
                 wrong += 1
                 print(f"{row[1]}: {counted} lines, and the page says {row[2]}")
-    if not 0 < total < 600:
+    if not 0 < total < 640:
         wrong += 1
     print(f"{total} lines of definitions")
     print(f"{1 if wrong == 0 else 0} passed, {wrong} failed")

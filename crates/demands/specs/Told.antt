@@ -44,14 +44,14 @@ verdict-told κs a r w p = rw p (verdict-coded (now (a .0)) (now (a .1 .0)))
 
 -- demand 3: where C gets less than 256 for a list, the run of the list ends as it must
 pub verdict-ends : Says verdict.ps verdict.r verdict-says.Learnt (λ κs a r w. (
-    r < 256 → (m : Rules ℤ) (start : World ℤ) (n : ℕ) → AtTime (shapeOf (now (a .0))) n start
+    r < 256 → (m : Rules ℤ ℤ) (start : World ℤ ℤ) (n : ℕ) → AtTime (shapeOf (now (a .0))) n start
     → Ends (now (a .0)) m (now (a .1 .0)) start n))
 verdict-ends κs a r w p l =
     demand-3 (now (a .0)) (now (a .1 .0)) (verdict-0 (now (a .0)) (now (a .1 .0)) .0 (rw p at l))
 
 -- and where it gets less than 256 for an order, so does the run of the bytes at the buffer's front
 pub order-ends : Says order.ps order.r order-says.Learnt (λ κs a r w. (
-    r < 256 → (m : Rules ℤ) (start : World ℤ) (n : ℕ) → AtTime (shapeOf (now (a .0))) n start
+    r < 256 → (m : Rules ℤ ℤ) (start : World ℤ ℤ) (n : ℕ) → AtTime (shapeOf (now (a .0))) n start
     → Ends (now (a .0)) m (take r (w .1 .0)) start n))
 order-ends κs a r w p l m start n at-n =
     let t = now (a .0) in

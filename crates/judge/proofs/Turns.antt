@@ -16,13 +16,11 @@ use Rattle.table.specs.declared.Answer.{Answer}
 use Rattle.table.specs.Shape.{Shape, total}
 use Rattle.table.specs.Packed.{shapeOf}
 use Rattle.table.specs.Check.{refusal, checked}
-use Rattle.table.specs.Checked.{passed-sound, few-calls}
 use Rattle.table.specs.Sound.{Sound}
 use Rattle.judging.specs.Conditions.{refusalAt}
 use Rattle.judging.specs.Passes.{Passes}
 use Rattle.judging.specs.Demand.{passed-exactly}
 use Rattle.judging.specs.Verdict.{answer, atEnd, verdictFrom, verdictOf}
-use Rattle.judging.specs.Met.{meets-iff, meets-call}
 use Rattle.judging.specs.Judged.{verdict-on, verdict-off, verdict-sound, verdict-unsound}
 use Rattle.judge.specs.declared.Run.{Run}
 use Rattle.judge.specs.declared.Taken.{Taken}
@@ -37,13 +35,6 @@ byte-fits x h = record { fits = omega arith }
 pub checked-number : (t : List ℕ) (a : Answer) → a ≡ checked t → a .number ≡ refusal t
 unfolding checked
 checked-number t a e = ap (λ b. b .number) e
-
--- a call that is taken is below 224
-pub taken-small : (t : List ℕ) → refusal t ≡ 0 → (done : ℕ → Bool) (c n : ℕ)
-    → n ≡ refusalAt (shapeOf t) done c → n ≡ 0 → c < 224
-taken-small t z done c n e o =
-    let m = meets-iff (shapeOf t) done c .0 (sym e ∙ o) in
-    omega (arith, meets-call (shapeOf t) done c m, few-calls t (passed-sound t z))
 
 -- ---- one call of a run
 

@@ -20,7 +20,8 @@ use Rattle.judge.specs.declared.records.Judged.{Judged}
 use Rattle.judge.specs.Marks.{marks}
 use Rattle.judge.specs.Records.{numbered, allNumbered}
 use Rattle.judge.specs.Carried.{begun, judgedNext, concluded, noRecord, upTo}
-use Rattle.judge.proofs.Turns.{taken-small, turn-starts, turn-on, turn-off, turn-ends}
+use Rattle.judging.specs.Demand.{taken-small}
+use Rattle.judge.proofs.Turns.{turn-starts, turn-on, turn-off, turn-ends}
 use Rattle.judge.proofs.Recorded.{next-refused, next-stops, next-goes, concluded-refused, concluded-ended}
 
 -- ---- the numbered form, place by place

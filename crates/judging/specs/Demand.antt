@@ -1,8 +1,9 @@
 -- Demand 2 over the bytes: what is passed keeps the rules, and what the order's procedure writes is passed.
-use mathlib.Core.Path.{_≡_}
+use mathlib.Core.Path.{_≡_, sym, _∙_}
 use mathlib.Core.Logic.{_↔_}
+use mathlib.Core.Bool.{Bool}
 use mathlib.Core.List.{List}
-use Prim.Native.Nat.{ℕ, _≤_, zero-le}
+use Prim.Native.Nat.{ℕ, _≤_, _<_, zero-le}
 use native.Mathlib.Omega.{arith}
 use native.Mathlib.Decide.{ℕ-discrete}
 use lib.ListN.{length}
@@ -17,8 +18,10 @@ use Rattle.calls.specs.Precedence.{precedes}
 use Rattle.orders.specs.Keeps.{Keeps}
 use Rattle.orders.specs.Sort.{placed}
 use Rattle.orders.specs.Sorted.{placed-first}
+use Rattle.judging.specs.Conditions.{refusalAt}
 use Rattle.judging.specs.Passes.{Passes}
 use Rattle.judging.specs.Verdict.{answer, verdictOf}
+use Rattle.judging.specs.Met.{meets-iff, meets-call}
 use Rattle.judging.specs.Judged.{verdict-sound, verdict-unsound, passed-iff, passed-N}
 use Rattle.judging.specs.Place.{verdict-place}
 use Rattle.judging.specs.Kept.{passes-iff}
@@ -48,6 +51,13 @@ module _ (t : List ℕ) where
   order-passed z e =
       let l = placed (total (shapeOf t)) (precedes (shapeOf t)) in
       passed-N t l (passed-keeps l .1 (z, placed-first (total (shapeOf t)) (precedes (shapeOf t)) e .keeps))
+
+  -- a call that is taken is below 224
+  pub taken-small : refusal t ≡ 0 → (done : ℕ → Bool) (c n : ℕ) → n ≡ refusalAt (shapeOf t) done c → n ≡ 0
+      → c < 224
+  taken-small z done c n e o =
+      let m = meets-iff (shapeOf t) done c .0 (sym e ∙ o) in
+      omega (arith, meets-call (shapeOf t) done c m, few-calls t (passed-sound t z))
 
   -- a place is at most 224
   pub verdict-most : (l : List ℕ) → verdictOf t l .place ≤ 224

@@ -6,14 +6,15 @@ use lib.ListN.{length, getD}
 use lib.IntN.{ℤ}
 use Rattle.table.specs.Shape.{total}
 use Rattle.table.specs.Packed.{shapeOf}
+use Rattle.calls.specs.Number.{callOf}
 use Rattle.judging.specs.Verdict.{verdictOf}
 use Rattle.twin.specs.Rules.{Rules}
-use Rattle.twin.specs.Run.{World, run}
+use Rattle.twin.specs.Run.{Values, World, run}
 use Rattle.twin.specs.Equations.{Solves, AtTime, Joined}
 use Rattle.twin.specs.Demand.{values, run-solves, run-single, run-later, moved-once as one-place, run-joined, runs-alike}
 
 -- how the run of an order ends that was started at time n
-pub record Ends (t : List ℕ) (m : Rules ℤ) (order : List ℕ) (w : World ℤ) (n : ℕ) : Type 0 where
+pub record Ends (t : List ℕ) (m : Rules ℤ ℤ) (order : List ℕ) (w : World ℤ ℤ) (n : ℕ) : Type 0 where
   -- every unit and port is one step later
   pub one-later : AtTime (shapeOf t) (suc n) (run (shapeOf t) m w order)
   -- each was moved exactly once: its call has one place in the order
@@ -25,11 +26,11 @@ pub record Ends (t : List ℕ) (m : Rules ℤ) (order : List ℕ) (w : World ℤ
   -- every value and state solves the equations
   pub solves : Solves (shapeOf t) m (values w) (values (run (shapeOf t) m w order))
   -- and nothing else does
-  pub single : (new : ℕ → ℤ) → Solves (shapeOf t) m (values w) new → (a : ℕ) → a < total (shapeOf t)
-      → values (run (shapeOf t) m w order) a ≡ new a
+  pub single : (new : Values ℤ ℤ) → Solves (shapeOf t) m (values w) new → (a : ℕ) → a < total (shapeOf t)
+      → values (run (shapeOf t) m w order) (callOf (shapeOf t) a) ≡ new (callOf (shapeOf t) a)
 
 -- every passed order, for any models, from anything held at one time; joined ports need not be equal then
-pub demand-3 : (t order : List ℕ) → verdictOf t order .number ≡ 0 → (m : Rules ℤ) (w : World ℤ) (n : ℕ)
+pub demand-3 : (t order : List ℕ) → verdictOf t order .number ≡ 0 → (m : Rules ℤ ℤ) (w : World ℤ ℤ) (n : ℕ)
     → AtTime (shapeOf t) n w → Ends t m order w n
 demand-3 t order p m w n start = record {
   one-later = run-later t m order p w n start;
@@ -41,6 +42,6 @@ demand-3 t order p m w n start = record {
 
 -- two passed orders end alike, in value and time
 pub demand-3-alike : (t order other : List ℕ) → verdictOf t order .number ≡ 0 → verdictOf t other .number ≡ 0
-    → (m : Rules ℤ) (w : World ℤ) (a : ℕ) → a < total (shapeOf t)
-    → run (shapeOf t) m w order a ≡ run (shapeOf t) m w other a
+    → (m : Rules ℤ ℤ) (w : World ℤ ℤ) (a : ℕ) → a < total (shapeOf t)
+    → run (shapeOf t) m w order (callOf (shapeOf t) a) ≡ run (shapeOf t) m w other (callOf (shapeOf t) a)
 demand-3-alike t order other p q m = runs-alike t m order other p q

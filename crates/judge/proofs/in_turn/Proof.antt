@@ -9,7 +9,8 @@ use Rattle.search.specs.Sets.{none}
 use Rattle.table.specs.Packed.{shapeOf}
 use Rattle.judging.specs.Verdict.{verdictFrom}
 use Rattle.judge.specs.Marks.{marks}
-use Rattle.judge.proofs.Turns.{byte-fits, taken-small, turn-starts, turn-on, turn-off, turn-ends}
+use Rattle.judging.specs.Demand.{taken-small}
+use Rattle.judge.proofs.Turns.{byte-fits, turn-starts, turn-on, turn-off, turn-ends}
 
 abbrev Inv-loop : tie.InvT-loop
 Inv-loop table order done₀ place₀ done place =

@@ -3,7 +3,8 @@ use borrow.Author.Needs.{needs}
 use Rattle.judge.proofs.Run.take.Statement.{statement}
 use Rattle.judge.proofs.Run.take.Tie as tie
 use mathlib.Core.Path.{sym, _∙_}
-use Rattle.judge.proofs.Turns.{checked-number, taken-small, take-unsound, take-refused, take-taken}
+use Rattle.judging.specs.Demand.{taken-small}
+use Rattle.judge.proofs.Turns.{checked-number, take-unsound, take-refused, take-taken}
 
 check-requires : tie.Need-check-requires
 check-requires c κs = search needs

@@ -2,7 +2,7 @@
 use borrow.Author.Needs.{needs}
 use Rattle.judge.proofs.records.judged_next.Statement.{statement}
 use Rattle.judge.proofs.records.judged_next.Tie as tie
-use Rattle.judge.proofs.Turns.{taken-small}
+use Rattle.judging.specs.Demand.{taken-small}
 use Rattle.judge.proofs.Recorded.{next-refused, next-stops, next-goes}
 
 returns : tie.Need-returns
