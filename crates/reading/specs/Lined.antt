@@ -151,7 +151,7 @@ module _ (room : ℕ) (t : List ℕ) where
     lined-come r (to-line i j n h p a q z) x =
         let (b, c, e) = subst LineNumber q (refusals-numbers blank 2 fs i) z in
         lined-line n j b c e (omega arith) (omega (arith, many)) (rw (lines, a) (p, sym q))
-    lined-come r (to-end last s c g z) x = lined-end last s c g z x
+    lined-come r (to-end last s c h g z) x = lined-end last s c g z x
 
   lined : (r : Reading) → Reads room t r → (r .number ≡ 0 → ⊥) → Lined t r
   unfolding lineOf
