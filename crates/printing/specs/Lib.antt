@@ -1,6 +1,7 @@
 -- What the lister prints.
 pub mod Printed
 pub mod Entries
+pub mod Lengths
 pub mod Listed
 pub mod Indexed
 pub mod Places
