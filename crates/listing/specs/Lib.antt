@@ -2,3 +2,5 @@
 pub mod Listing
 pub mod Determined
 pub mod Examples
+pub mod Longest
+pub mod Greatest
