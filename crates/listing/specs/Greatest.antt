@@ -1,6 +1,6 @@
 -- No listing is longer than 8,860 bytes, so that a buffer of that size has room for every listing.
 use Prim.Native.Nat.{ℕ, _≤_, _<_}
-use mathlib.Core.Path.{_≡_, refl, _∙_}
+use mathlib.Core.Path.{_≡_, refl}
 use mathlib.Core.List.{List}
 use native.Mathlib.Omega.{arith}
 use native.Mathlib.Decide.{ℕ-discrete}
@@ -89,8 +89,8 @@ pub attained : (t : List ℕ) × (length (listing t) ≡ 8860)
 attained = (greatestText, examples .4)
 
 -- what `list` answers where it is lent 8,860 bytes or more: 0 and the length, so that 34 never comes
-pub list-fits : (t out : List ℕ) (r : Answer) → r ≡ listed (listing t) (length out) .answer
-    → 8860 ≤ length out → r ≡ record { number = 0; place = length (listing t) }
+pub list-fits : (t : List ℕ) (room : ℕ) (r : Answer) → r ≡ listed (listing t) room .answer → 8860 ≤ room
+    → (r .number ≡ 0) × (r .place ≡ length (listing t)) × (r .place ≤ 8860)
 unfolding listed
-list-fits t out r e h =
-    e ∙ rw (le-ltb (length out) (length (listing t)) (omega (arith, listing-most t)))
+list-fits t room r e h =
+    rw (e, le-ltb room (length (listing t)) (omega (arith, listing-most t))) (refl, refl, listing-most t)

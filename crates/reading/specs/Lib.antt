@@ -20,5 +20,6 @@ pub mod Loose
 pub mod Counted
 pub mod Refused
 pub mod Lined
+pub mod Room
 pub mod Parts
 pub mod Sound

@@ -144,7 +144,7 @@ module _ (room : ℕ) (t : List ℕ) where
         let b : place (isLoose (rows t)) (rows t) ≡ suc (place (isLoose fs) fs) =
         ap (λ l. place (isLoose l) l) lines ∙ loose-below first fs opened in
         lined-loose _ (omega arith) (omega (arith, many))
-    lined-end last r c g closes-34 n = lined-none 34 (inr refl)
+    lined-end last r c g (closes-34 h) n = lined-none 34 (inr refl)
     lined-end last r c g (closes-0 u j) n = absurd (n refl)
 
     lined-come : (r : Reading) → Comes room blank 2 fs r → (r .number ≡ 0 → ⊥) → Lined t r

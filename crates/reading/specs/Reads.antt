@@ -32,7 +32,7 @@ pub data Closes (room : ℕ) (d : Draft) : Reading → Type 0 where
   closes-33 : length (d .units) ≡ 0 → Closes room d (stopped 33 1)
   closes-31 : loose d < length (d .inputs)
       → Closes room d (stopped 31 (getD (d .inputs) (loose d) noInput .line))
-  closes-34 : Closes room d (stopped 34 0)
+  closes-34 : room < length (packed d) → Closes room d (stopped 34 0)
   closes-0 : 0 < length (d .units) → length (d .inputs) ≤ loose d → Closes room d (table d)
 
 -- the lines from line k on: one is the first that is refused, or all are taken
@@ -56,16 +56,16 @@ pub data Reads (room : ℕ) (t : List ℕ) : Reading → Type 0 where
 pub ending-closes : (room : ℕ) (d : Draft) → Closes room d (ending room d)
 unfolding ending known
 ending-closes room d = go (eqb (length (d .units)) 0) refl (ltb (loose d) (length (d .inputs))) refl
-    (ltb room (length (packed d)))
+    (ltb room (length (packed d))) refl
   where
     go : (a : Bool) → eqb (length (d .units)) 0 ≡ a → (b : Bool) → ltb (loose d) (length (d .inputs)) ≡ b
-        → (c : Bool)
+        → (c : Bool) → ltb room (length (packed d)) ≡ c
         → Closes room d (cond a (stopped 33 1)
         (cond b (stopped 31 (getD (d .inputs) (loose d) noInput .line)) (cond c (stopped 34 0) (table d))))
-    go true p b q c = closes-33 (eqb-true _ _ p)
-    go false p true q c = closes-31 (ltb-true _ _ q)
-    go false p false q true = closes-34
-    go false p false q false =
+    go true p b q c s = closes-33 (eqb-true _ _ p)
+    go false p true q c s = closes-31 (ltb-true _ _ q)
+    go false p false q true s = closes-34 (ltb-true _ _ s)
+    go false p false q false s =
         let z = eqb-false (length (d .units)) 0 p in
         closes-0 (some (length (d .units)) z) (ltb-false _ _ q)
       where
@@ -169,7 +169,7 @@ text-read room t = go (reading room t) (text-reads room t)
         → Proper last → Closes room last r → r .number ≡ 0 → Read t r
     closed first fs last r l o c n g (closes-33 z) e = absurd (omega arith)
     closed first fs last r l o c n g (closes-31 z) e = absurd (omega arith)
-    closed first fs last r l o c n g closes-34 e = absurd (omega arith)
+    closed first fs last r l o c n g (closes-34 h) e = absurd (omega arith)
     closed first fs last r l o c n g (closes-0 s j) e = record {
       first = first;
       below = fs;

@@ -57,8 +57,7 @@ module _ (d : Draft) (k : ℕ) (f : Row) where
   unfolding word
   opening m n o p q e =
       let (a, r) = passed _ 24 _ (omega arith) e in
-      let (b, z) = passed _ 25 o (omega arith) r in
-      (
+      let (b, z) = passed _ 25 o (omega arith) r in (
         name-field f n 0 b p,
         elim (decLt n 2) [
           | no h ↦ name-field f n 1 b (omega arith)
