@@ -1,5 +1,4 @@
 -- A place of the order is at most 224: no cycle that is shown has more than N calls.
-use mathlib.Core.Path.{_≡_}
 use mathlib.Core.List.{List}
 use Prim.Native.Nat.{ℕ, _≤_, zero-le}
 use native.Mathlib.Omega.{arith}

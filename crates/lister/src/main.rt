@@ -33,7 +33,7 @@ fn read_input(room: &mut [u8]) -> Input
     Input::Bytes(n)
 }
 
-// Writes the listing of a text. The answer tells whether there was room for it: that there always is is proved.
+// Prints the listing of a text, and answers whether there was room for it: there always is.
 fn print(text: &[u8]) -> bool
     ensures { λ r. ⌜ r ≡ true ⌝ }
 {

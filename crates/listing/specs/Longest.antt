@@ -1,5 +1,5 @@
 -- How long the lines of calls are at most, under names of at most 16 bytes.
-use Prim.Native.Nat.{ℕ, zero, suc, _+_, _*_, _-_, _≤_, _<_}
+use Prim.Native.Nat.{ℕ, suc, _+_, _*_, _-_, _≤_, _<_}
 use mathlib.Core.Path.{_≡_}
 use mathlib.Core.List.{List, [], _∷_}
 use native.Mathlib.Nat.{add-zero}
@@ -23,7 +23,7 @@ use Rattle.pen.specs.Chain.{decimal-below}
 use Rattle.printing.specs.Entries.{entry, entries, callsText}
 use Rattle.printing.specs.Lengths.{entry-long, calls-long}
 
--- a heading of 10 bytes, 562 digits of the places 0 to 223, 25 bytes for each of 32 steps, 39 for 192 gets and sets
+-- the heading, the digits of places 0 to 223, and besides its place 25 bytes for a step, 39 for a get or a set
 abbrev pub greatest : ℕ
 greatest = 10 + 562 + 32 * 25 + 192 * 39
 
@@ -43,7 +43,7 @@ place-long k h = elim (decLt k 10) [
 
 module _ (units outputs inputs : List Row) (us : (i : ℕ) → Spelled (getD units i []))
     (ys : (i : ℕ) → Spelled (getD outputs i [])) (xs : (i : ℕ) → Spelled (getD inputs i [])) where
-  -- ---- one line, besides its place: 25 bytes for a step, 39 for a get or a set
+  -- ---- one line
 
   step-most : (k u : ℕ) → length (entry units outputs inputs k (Step u)) ≤ length (decimal k) + 25
   unfolding entry
@@ -93,7 +93,7 @@ module _ (units outputs inputs : List Row) (us : (i : ℕ) → Spelled (getD uni
         entries-most (suc k) cs (rest-once c cs o) (omega arith),
       ))
 
-  -- a heading of 5 bytes, 32 units, 96 outputs, 96 inputs
+  -- under a heading whose word has 5 bytes
   pub calls-most : (w cs : List ℕ) → length w ≡ 5
       → length units ≤ 32 → length outputs ≤ 96 → length inputs ≤ 96
       → ((i : ℕ) → i < length cs → getD cs i 0 < length units + length outputs + length inputs) → Once cs

@@ -78,7 +78,7 @@ unfolding refusals place
 line-above room d k f fs r t (to-line i j n h p a q z) =
     to-line (suc i) j n (omega arith) (omega arith) (rw (t, a)) q z
 line-above room d k f fs r t (to-end last s c n g x) = to-end last s (goes-on (line-taken d k f t) c)
-    (elim [ zero ↦ line-spelled d k f t | suc i ↦ n i ]) g x
+    (elim [ zero ↦ line-spelled d f k t | suc i ↦ n i ]) g x
 
 pub lines-come : (room : ℕ) (d : Draft) (k : ℕ) (fs : List Row) → Proper d
     → Comes room d k fs (linesFrom room d k fs)

@@ -6,7 +6,7 @@ use mathlib.Core.List.{List, [], _∷_}
 use native.Mathlib.Omega.{arith}
 use native.Mathlib.Decide.{ℕ-discrete, decLt}
 use lib.ListN.{length, getD, List·getD-eq-default}
-use lib.Dec.{T, eqb, ltb, leb}
+use lib.Dec.{eqb, ltb, leb}
 use borrow.Author.Tests.{eqb-true, ltb-true, ltb-false, leb-true, not-false}
 use Rattle.search.specs.Truth.{T-and, holds, is-true}
 use Rattle.grammar.specs.Words.{same}
@@ -45,7 +45,7 @@ name-field f (suc n) i e h =
     ]
 
 -- ---- a line that is taken has as many fields as its keyword asks, and its names are names
-module _ (d : Draft) (k : ℕ) (f : Row) where
+module _ (d : Draft) (f : Row) where
   passed : (b : Bool) (n : ℕ) (o : Outcome) → 0 < n → refuse b n d o .number ≡ 0 → (b ≡ false) × (o .number ≡ 0)
   unfolding refuse refused
   passed true n o p e = absurd (omega arith)
@@ -61,14 +61,15 @@ module _ (d : Draft) (k : ℕ) (f : Row) where
         name-field f n 0 b p,
         elim (decLt n 2) [
           | no h ↦ name-field f n 1 b (omega arith)
-          | yes h ↦ rw (List·getD-eq-default f [] {n = 2} (omega (arith, q h, eqb-true (length f) m (not-false _ a))))
-              (omega arith)
+          | yes h ↦
+              (let l : length f ≤ 2 = omega (arith, q h, eqb-true (length f) m (not-false _ a)) in
+              rw (List·getD-eq-default f [] {n = 2} l) (omega arith))
         ],
       )
 
-  pub line-spelled : line d k f .number ≡ 0 → Spelled f
+  pub line-spelled : (k : ℕ) → line d k f .number ≡ 0 → Spelled f
   unfolding unitLine outLine inLine feedLine joinLine refused
-  line-spelled = by-keyword (λ o. o .number ≡ 0 → Spelled f) d k f
+  line-spelled k = by-keyword (λ o. o .number ≡ 0 → Spelled f) d k f
       (λ w. opening 2 1 _ (omega arith) (omega arith))
       (λ w. opening 3 2 _ (omega arith) (omega arith))
       (λ w. opening 4 2 _ (omega arith) (omega arith))
