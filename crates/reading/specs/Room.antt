@@ -12,7 +12,7 @@ use Rattle.reading.specs.Parts.{pairs-long}
 use Rattle.reading.specs.Refused.{refusals-numbers}
 use Rattle.reading.specs.Reads.{Closes, closes-33, closes-31, closes-34, closes-0, Comes, to-line, to-end, Reads, reads-20, reads-21, reads-22, reads-23, reads-lines, text-reads}
 
--- "The greatest length is 644"
+-- no table is longer
 pub packed-most : (d : Draft) → Proper d → length (packed d) ≤ 644
 unfolding packed
 packed-most d g = simp (length-append, length-map) (omega (arith, pairs-long (d .feeds), g))
