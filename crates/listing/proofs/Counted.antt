@@ -1,6 +1,6 @@
 -- A text that is read is short, and declares no more units, outputs and inputs than a table may have.
 use Prim.Native.Nat.{ℕ, _-_, _≤_}
-use mathlib.Core.Path.{_≡_, refl, subst}
+use mathlib.Core.Path.{_≡_, refl}
 use mathlib.Core.Bool.{Bool, true, false, not, _||_, cond}
 use mathlib.Core.List.{List}
 use native.Mathlib.Omega.{arith}
@@ -14,9 +14,8 @@ use Rattle.grammar.specs.Words.{lf}
 use Rattle.grammar.specs.Rows.{rows, lineOf, firstBad}
 use Rattle.grammar.specs.Opening.{linesOf}
 use Rattle.grammar.specs.Reading.{Reading, reading, lineByLine, stopped}
-use Rattle.reading.specs.Sound.{read-sound}
+use Rattle.reading.specs.Sound.{lines-sound}
 use Rattle.reading.specs.Numbers.{numbered}
-use Rattle.reading.specs.Numbered.{read-numbered}
 use Rattle.declarations.specs.Noted.{declared}
 use Rattle.declarations.specs.Standing.{declared-all}
 
@@ -38,7 +37,7 @@ module _ (room : ℕ) (t : List ℕ) (e : reading room t .number ≡ 0) where
 
   -- the counts of the table are those of the lines
   table : Sound (numbered (rows t))
-  table = subst Sound (read-numbered room t e) (read-sound room t e)
+  table = lines-sound room t e
 
   -- ---- no line that declares is left out
 

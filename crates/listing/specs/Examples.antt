@@ -1,7 +1,8 @@
--- The example of SPECIFICATION, Lister 7, a cycle and two refusals, computed.
-use Prim.Native.Nat.{ℕ}
+-- The example of SPECIFICATION, Lister 7, a cycle, two refusals and a listing of the greatest length, computed.
+use Prim.Native.Nat.{ℕ, zero, suc, _+_, _/_, _%_}
 use mathlib.Core.Path.{_≡_, refl}
-use mathlib.Core.List.{List, [], _++_}
+use mathlib.Core.List.{List, [], _∷_, _++_}
+use lib.ListN.{length, replicate}
 use Rattle.search.specs.Every.{every, some}
 use Rattle.search.specs.Least.{leastFrom}
 use Rattle.table.specs.Packed.{
@@ -111,11 +112,35 @@ itsCalls =
     ++ ascii "4\tget\ttank\tlevel\n"
     ++ ascii "5\tset\tpump\tlevel\n"
 
+-- ---- 32 units, 96 outputs and 96 inputs, none of them reactive, under names of 16 bytes
+
+-- the lines of the numbers below n, before the bytes s
+abbrev each : (ℕ → List ℕ) → ℕ → List ℕ → List ℕ
+each line zero s = s
+each line (suc n) s = each line n (line n ++ s)
+
+-- two letters and 14 more
+abbrev name : ℕ → List ℕ
+name i = (97 + i % 26) ∷ ((97 + i / 26) ∷ replicate 14 97)
+
+-- the unit and the name of port i: each unit has three
+abbrev port : ℕ → List ℕ
+port i = name (i / 3) ++ ascii "\t" ++ name i
+
+abbrev pub greatestText : List ℕ
+greatestText =
+    ascii "cosim\t1\n"
+    ++ each (λ u. ascii "unit\t" ++ name u ++ ascii "\n") 32
+    (each (λ y. ascii "out\t" ++ port y ++ ascii "\n") 96
+    (each (λ x. ascii "in\t" ++ port x ++ ascii "\tdelayed\n") 96
+    (each (λ x. ascii "join\t" ++ port x ++ ascii "\t" ++ port x ++ ascii "\n") 96 [])))
+
 pub examples :
     (listing (pumpAndTank (ascii "delayed")) ≡ ascii "order\t6\n" ++ itsCalls)
     × (listing (pumpAndTank (ascii "reactive")) ≡ ascii "cycle\t6\n" ++ itsCalls)
     × (listing (ascii "cosim\t1\nout\tpump\tflow\n") ≡ ascii "refused\t27\t2\n")
     × (listing [] ≡ ascii "refused\t20\t0\n")
+    × (length (listing greatestText) ≡ 8860)
 unfolding every some leastFrom units outputs inputs feeds outputOwners inputOwners kinds sources
     feedBytes asked checkRefuse countsIn allBelow isPair feedKnown feedAgain feedsFrom wiring refusal callIn
     feedsTo hasKind byKind before precedes ready nextCall sort placed upto
@@ -125,4 +150,4 @@ unfolding every some leastFrom units outputs inputs feeds outputOwners inputOwne
     joined addJoin refused refuse taken isName faulty kindOf unitLine outLine inLine feedLine joinLine
     line stopped pairs packed ending linesFrom version lineByLine reading linesOf decimal spell
     printed entry entries callsText refusalText outcomeText listing
-examples = (refl, refl, refl, refl)
+examples = (refl, refl, refl, refl, refl)

@@ -11,5 +11,6 @@ pub mod Sorted
 pub mod Walked
 pub mod Remains
 pub mod Turned
+pub mod Once
 pub mod Seen
 pub mod Shown

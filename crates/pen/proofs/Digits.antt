@@ -1,13 +1,13 @@
 -- A number spelled from its last digit: what is left to spell goes before the digits that are there.
-use Prim.Native.Nat.{ℕ, zero, suc, _+_, _-_, _/_, _%_, _^_, _≤_, _<_}
+use Prim.Native.Nat.{ℕ, suc, _+_, _-_, _/_, _%_, _^_, _≤_, _<_}
 use mathlib.Core.Path.{_≡_, refl, sym, ap, _∙_}
 use mathlib.Core.List.{List, [], _∷_}
-use native.Mathlib.Nat.{div-lt-iff-lt-mul, pow-suc}
 use native.Mathlib.Omega.{arith}
 use lib.ListN.{length, take, drop, set, length-set, length-drop, drop-of-length-le}
 use lib.Seq.{drop-cons, getD-set-same, drop-set-lt, take-all}
 use borrow.Author.Tests.{lt-ltb, le-ltb}
 use Rattle.pen.specs.Decimal.{spell, decimal}
+use Rattle.pen.specs.Chain.{tenth-below}
 
 -- m is left to spell, in at most suc i digits, before the digits s
 pub record Spelling (n i m : ℕ) (s : List ℕ) : Type 0 where
@@ -19,21 +19,16 @@ pub spelling-starts : (n : ℕ) → n < 2 ^ 64 → Spelling n 19 n []
 unfolding decimal
 spelling-starts n h = record { all = refl; small = omega arith; left = refl }
 
--- a number of more than one digit has a place more
-one-more : (i m : ℕ) → 10 ≤ m → m < 10 ^ suc i → (j : ℕ) × (i ≡ suc j) × (m / 10 < 10 ^ suc j)
-one-more zero m h g = let z : m < 10 = g in absurd (omega arith)
-one-more (suc j) m h g = (j, refl, div-lt-iff-lt-mul {k = 10} (omega arith) .1 (rw (pow-suc 10 (suc j)) at g))
-
 module _ {n i m : ℕ} {s : List ℕ} (p : Spelling n i m s) where
   pub spelling-some : 10 ≤ m → 0 < i
-  spelling-some h = go (one-more i m h (p .small))
+  spelling-some h = go (tenth-below i m h (p .small))
     where
       go : (j : ℕ) × (i ≡ suc j) × (m / 10 < 10 ^ suc j) → 0 < i
       go (j, e, q) = omega arith
 
   pub spelling-on : 10 ≤ m → Spelling n (i - 1) (m / 10) ((48 + m % 10) ∷ s)
   unfolding spell
-  spelling-on h = go (one-more i m h (p .small))
+  spelling-on h = go (tenth-below i m h (p .small))
     where
       go : (j : ℕ) × (i ≡ suc j) × (m / 10 < 10 ^ suc j) → Spelling n (i - 1) (m / 10) ((48 + m % 10) ∷ s)
       go (j, e, q) =

@@ -1,15 +1,15 @@
 -- Bytes that fit, put one after the other: what callers cite.
-use Prim.Native.Nat.{ℕ, zero, suc, _+_, _/_, _%_, _≤_, _<_}
-use mathlib.Core.Path.{_≡_, sym, ap, _∙_}
+use Prim.Native.Nat.{ℕ, zero, suc, _+_, _/_, _%_, _^_, _≤_, _<_}
+use mathlib.Core.Path.{_≡_, refl, sym, ap, _∙_}
 use mathlib.Core.Bool.{Bool, true, false, cond}
 use mathlib.Core.List.{List, [], _∷_, _++_, append-assoc}
-use native.Mathlib.Nat.{add-zero, zero-add}
+use native.Mathlib.Nat.{add-zero, zero-add, div-lt-iff-lt-mul, pow-suc}
 use native.Mathlib.Omega.{arith}
 use lib.ListN.{length, take, drop, length-append, length-drop, take-append-drop}
 use lib.Seq.{length-take-le, take-at, drop-at, drop-drop}
 use lib.Dec.{leb, ltb}
 use native.Mathlib.Decide.{decLe}
-use borrow.Author.Tests.{le-leb, lt-leb}
+use borrow.Author.Tests.{le-leb, lt-leb, ltb-false}
 use Rattle.pen.specs.Put.{over, fits, wrote, behind, Put}
 use Rattle.pen.specs.Decimal.{spell, decimal}
 
@@ -120,3 +120,25 @@ spell-long (suc f) n s = go (ltb n 10) (spell-long f (n / 10) ((48 + n % 10) ∷
 pub decimal-long : (n : ℕ) → length (decimal n) ≤ 20
 unfolding decimal
 decimal-long n = omega (arith, spell-long 20 n [])
+
+-- the tenth of a number of more than one digit has a digit less
+pub tenth-below : (i n : ℕ) → 10 ≤ n → n < 10 ^ suc i → (j : ℕ) × (i ≡ suc j) × (n / 10 < 10 ^ suc j)
+tenth-below zero n h g = let z : n < 10 = g in absurd (omega arith)
+tenth-below (suc j) n h g = (j, refl, div-lt-iff-lt-mul {k = 10} (omega arith) .1 (rw (pow-suc 10 (suc j)) at g))
+
+spell-below : (f i n : ℕ) (s : List ℕ) → n < 10 ^ suc i → length (spell f n s) ≤ suc i + length s
+unfolding spell
+spell-below zero i n s h = omega arith
+spell-below (suc f) i n s h = go (ltb n 10) refl (λ j. spell-below f j (n / 10) ((48 + n % 10) ∷ s))
+  where
+    go :
+        (b : Bool) → ltb n 10 ≡ b →
+        ((j : ℕ) → n / 10 < 10 ^ suc j → length (spell f (n / 10) ((48 + n % 10) ∷ s)) ≤ suc j + suc (length s)) →
+        length (cond b ((48 + n) ∷ s) (spell f (n / 10) ((48 + n % 10) ∷ s))) ≤ suc i + length s
+    go true e ih = omega arith
+    go false e ih = let (j, p, q) = tenth-below i n (ltb-false n 10 e) h in omega (arith, ih j q, p)
+
+-- a number below 10 to the i, i at least 1, has at most i digits
+pub decimal-below : (i n : ℕ) → n < 10 ^ suc i → length (decimal n) ≤ suc i
+unfolding decimal
+decimal-below i n h = omega (arith, spell-below 20 i n [] h)

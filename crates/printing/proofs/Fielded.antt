@@ -8,6 +8,7 @@ use Rattle.grammar.specs.Words.{tab, lf}
 use Rattle.pen.specs.Put.{Put}
 use Rattle.pen.specs.Chain.{Wrote, put-fits, wrote-put, wrote-then, wrote-long}
 use Rattle.printing.specs.Printed.{printed}
+use Rattle.printing.specs.Lengths.{entry-long}
 
 -- some bytes put, and the byte that ends them
 pub ended :
@@ -23,9 +24,6 @@ module _ (d w u p : List ℕ) where
       ((d ++ (tab ∷ [])) ++ (w ++ (tab ∷ []))) ++ (u ++ (tab ∷ [])) ++ (p ++ (lf ∷ [])) ≡ printed (d ∷ w ∷ u ∷ p ∷ [])
   unfolding printed
   entry-fields = simp append-assoc
-
-  pub entry-long : length (printed (d ∷ w ∷ u ∷ p ∷ [])) ≡ length d + length w + length u + length p + 4
-  entry-long = rw (← entry-fields) (simp length-append (omega arith))
 
 -- the four fields of a call's line, put one after the other into a buffer that has room for the line
 module _ (out : List ℕ) (at : ℕ) (d w u p : List ℕ) (h : at + length (printed (d ∷ w ∷ u ∷ p ∷ [])) ≤ length out) where

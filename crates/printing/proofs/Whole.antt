@@ -19,7 +19,8 @@ use Rattle.pen.specs.Decimal.{decimal}
 use Rattle.pen.specs.Chain.{Wrote, wrote-then, wrote-long, wrote-front}
 use Rattle.printing.specs.Printed.{printed}
 use Rattle.printing.specs.Entries.{callsText, refusalText, outcomeText}
-use Rattle.printing.specs.Indexed.{entriesOf, callsOf, outcomeOf}
+use Rattle.printing.specs.Indexed.{unitLines, outputLines, inputLines, entriesOf, callsOf, outcomeOf}
+use Rattle.printing.specs.Lengths.{calls-long}
 use Rattle.printing.specs.Listed.{listed}
 use Rattle.printing.proofs.Fielded.{ended-long}
 
@@ -50,24 +51,14 @@ unfolding printed
 two-fields w d = append-assoc w (tab ∷ []) (d ++ (lf ∷ []))
 
 module _ (t w cs : List ℕ) where
-  pub calls-long :
-      length (callsOf t w cs) ≡ length w + length (decimal (length cs)) + 2 + length (entriesOf t 0 cs)
-  unfolding callsText
-  calls-long =
-      omega (
-        arith,
-        length-append (printed (w ∷ decimal (length cs) ∷ [])) (entriesOf t 0 cs),
-        ap length (two-fields w (decimal (length cs))),
-        length-append (w ++ (tab ∷ [])) (decimal (length cs) ++ (lf ∷ [])),
-        ended-long w tab,
-        ended-long (decimal (length cs)) lf,
-      )
+  long : length (callsOf t w cs) ≡ length w + length (decimal (length cs)) + 2 + length (entriesOf t 0 cs)
+  long = calls-long (unitLines t) (outputLines t) (inputLines t) w cs
 
   module _ (o : List ℕ) where
     pub calls-not-1 :
         (n : ℕ) → n ≡ length (decimal (length cs)) → length o < length w + n + 2 →
         Listed (callsOf t w cs) o o short
-    calls-not-1 n e h = listed-not _ o (omega (arith, calls-long))
+    calls-not-1 n e h = listed-not _ o (omega (arith, long))
 
     module _ (n : ℕ) (e : n ≡ length (decimal (length cs))) (h : length w + n + 2 ≤ length o) where
       pub calls-not-2 :
@@ -75,7 +66,7 @@ module _ (t w cs : List ℕ) where
           Listed (callsOf t w cs) o o short
       calls-not-2 f =
           listed-not _ o
-          (omega (arith, calls-long, leb-false (length (entriesOf t 0 cs)) (length o - (length w + n + 2)) f))
+          (omega (arith, long, leb-false (length (entriesOf t 0 cs)) (length o - (length w + n + 2)) f))
 
       module _ (f : leb (length (entriesOf t 0 cs)) (length o - (length w + n + 2)) ≡ true) where
         fits : length w + n + 2 + length (entriesOf t 0 cs) ≤ length o
@@ -117,9 +108,6 @@ module _ (n k : ℕ) where
       ≡ refusalText n k
   unfolding refusalText printed
   three-fields = simp append-assoc
-
-  pub refusal-long : length (refusalText n k) ≡ length (decimal n) + length (decimal k) + 10
-  refusal-long = rw (← three-fields) (simp length-append (omega arith))
 
   module _ {o₁ o₂ o₃ : List ℕ} {o : List ℕ} {k₁ k₂ k₃ : ℕ} where
     pub refusal-all :

@@ -1,6 +1,7 @@
 pub mod Proper
 pub mod Kept
 pub mod Keyword
+pub mod Spelled
 pub mod Takes
 pub mod Found
 pub mod Declared
@@ -13,6 +14,7 @@ pub mod Named
 pub mod Sourced
 pub mod First
 pub mod Numbered
+pub mod Names
 pub mod InOrder
 pub mod Loose
 pub mod WhichLine
@@ -20,5 +22,6 @@ pub mod Computed
 pub mod Counted
 pub mod Refused
 pub mod Lined
+pub mod Room
 pub mod Parts
 pub mod Sound

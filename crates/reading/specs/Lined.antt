@@ -127,14 +127,14 @@ module _ (room : ℕ) (t : List ℕ) where
         let b : place (isLoose (rows t)) (rows t) ≡ suc (place (isLoose fs) fs) =
         ap (λ l. place (isLoose l) l) lines ∙ loose-below first fs opened in
         lined-loose _ (omega arith) (omega (arith, many))
-    lined-end last r c g closes-34 n = lined-none 34 (inr refl)
+    lined-end last r c g (closes-34 h) n = lined-none 34 (inr refl)
     lined-end last r c g (closes-0 u j) n = absurd (n refl)
 
     lined-come : (r : Reading) → Comes room blank 2 fs r → (r .number ≡ 0 → ⊥) → Lined t r
     lined-come r (to-line i j n h p a q z) x =
         let (b, c, e) = subst LineNumber q (refusals-numbers blank 2 fs i) z in
         lined-line n j b c e (omega arith) (omega (arith, many)) (rw (lines, a) (p, sym q))
-    lined-come r (to-end last s c g z) x = lined-end last s c g z x
+    lined-come r (to-end last s c h g z) x = lined-end last s c g z x
 
   lined : (r : Reading) → Reads room t r → (r .number ≡ 0 → ⊥) → Lined t r
   unfolding lineOf

@@ -1,5 +1,5 @@
 -- What reading a text comes to, case by case.
-use Prim.Native.Nat.{ℕ, suc, _+_, _-_, _<_, _≤_}
+use Prim.Native.Nat.{ℕ, zero, suc, _+_, _-_, _<_, _≤_}
 use mathlib.Core.Path.{_≡_, refl}
 use mathlib.Core.Bool.{Bool, true, false, not, cond, _&&_, _||_}
 use mathlib.Core.List.{List, [], _∷_}
@@ -20,6 +20,7 @@ use Rattle.grammar.specs.Reading.{Reading, reading, lineByLine, linesFrom, endi
 use Rattle.reading.specs.Proper.{Proper, blank-proper}
 use Rattle.reading.specs.Kept.{line-kept}
 use Rattle.reading.specs.WhichLine.{refusals}
+use Rattle.reading.specs.Spelled.{Spelled, line-spelled}
 use Rattle.reading.specs.Takes.{line-taken, Runs, ends, goes-on}
 
 -- what is read where nothing is refused
@@ -31,15 +32,15 @@ pub data Closes (room : ℕ) (d : Draft) : Reading → Type 0 where
   closes-33 : length (d .units) ≡ 0 → Closes room d (stopped 33 1)
   closes-31 : loose d < length (d .inputs)
       → Closes room d (stopped 31 (getD (d .inputs) (loose d) noInput .line))
-  closes-34 : Closes room d (stopped 34 0)
+  closes-34 : room < length (packed d) → Closes room d (stopped 34 0)
   closes-0 : 0 < length (d .units) → length (d .inputs) ≤ loose d → Closes room d (table d)
 
 -- the lines from line k on: one is the first that is refused, or all are taken
 pub data Comes (room : ℕ) (d : Draft) (k : ℕ) (fs : List Row) : Reading → Type 0 where
   to-line : (i j n : ℕ) → i < length fs → j ≡ k + i → place (λ n. not (eqb n 0)) (refusals d k fs) ≡ i
       → getD (refusals d k fs) i 0 ≡ n → (n ≡ 0 → ⊥) → Comes room d k fs (stopped n j)
-  to-end : (last : Draft) (r : Reading) → Runs d k fs last → Proper last → Closes room last r
-      → Comes room d k fs r
+  to-end : (last : Draft) (r : Reading) → Runs d k fs last → ((i : ℕ) → Spelled (getD fs i []))
+      → Proper last → Closes room last r → Comes room d k fs r
 
 -- the whole text
 pub data Reads (room : ℕ) (t : List ℕ) : Reading → Type 0 where
@@ -55,16 +56,16 @@ pub data Reads (room : ℕ) (t : List ℕ) : Reading → Type 0 where
 pub ending-closes : (room : ℕ) (d : Draft) → Closes room d (ending room d)
 unfolding ending known
 ending-closes room d = go (eqb (length (d .units)) 0) refl (ltb (loose d) (length (d .inputs))) refl
-    (ltb room (length (packed d)))
+    (ltb room (length (packed d))) refl
   where
     go : (a : Bool) → eqb (length (d .units)) 0 ≡ a → (b : Bool) → ltb (loose d) (length (d .inputs)) ≡ b
-        → (c : Bool)
+        → (c : Bool) → ltb room (length (packed d)) ≡ c
         → Closes room d (cond a (stopped 33 1)
         (cond b (stopped 31 (getD (d .inputs) (loose d) noInput .line)) (cond c (stopped 34 0) (table d))))
-    go true p b q c = closes-33 (eqb-true _ _ p)
-    go false p true q c = closes-31 (ltb-true _ _ q)
-    go false p false q true = closes-34
-    go false p false q false =
+    go true p b q c s = closes-33 (eqb-true _ _ p)
+    go false p true q c s = closes-31 (ltb-true _ _ q)
+    go false p false q true s = closes-34 (ltb-true _ _ s)
+    go false p false q false s =
         let z = eqb-false (length (d .units)) 0 p in
         closes-0 (some (length (d .units)) z) (ltb-false _ _ q)
       where
@@ -76,12 +77,13 @@ line-above : (room : ℕ) (d : Draft) (k : ℕ) (f : Row) (fs : List Row) (r : R
 unfolding refusals place
 line-above room d k f fs r t (to-line i j n h p a q z) =
     to-line (suc i) j n (omega arith) (omega arith) (rw (t, a)) q z
-line-above room d k f fs r t (to-end last s c g x) = to-end last s (goes-on (line-taken d k f t) c) g x
+line-above room d k f fs r t (to-end last s c n g x) = to-end last s (goes-on (line-taken d k f t) c)
+    (elim [ zero ↦ line-spelled d f k t | suc i ↦ n i ]) g x
 
 pub lines-come : (room : ℕ) (d : Draft) (k : ℕ) (fs : List Row) → Proper d
     → Comes room d k fs (linesFrom room d k fs)
-unfolding linesFrom refusals place
-lines-come room d k [] g = to-end d _ ends g (ending-closes room d)
+unfolding linesFrom refusals place word
+lines-come room d k [] g = to-end d _ ends (λ i. omega arith) g (ending-closes room d)
 lines-come room d k (f ∷ fs) g =
     go (eqb (line d k f .number) 0) refl (lines-come room (line d k f .draft) (suc k) fs (line-kept d g k f))
   where
@@ -152,6 +154,7 @@ pub record Read (t : List ℕ) (r : Reading) : Type 0 where
   pub lines : rows t ≡ first ∷ below
   pub opened : word first 0 ≡ ascii "cosim"
   pub run : Runs blank 2 below draft
+  pub spelled : (i : ℕ) → Spelled (getD below i [])
   pub proper : Proper draft
   pub some : 0 < length (draft .units)
   pub joined : length (draft .inputs) ≤ loose draft
@@ -162,18 +165,19 @@ unfolding stopped
 text-read room t = go (reading room t) (text-reads room t)
   where
     closed : (first : Row) (fs : List Row) (last : Draft) (r : Reading) → rows t ≡ first ∷ fs
-        → word first 0 ≡ ascii "cosim" → Runs blank 2 fs last → Proper last → Closes room last r
-        → r .number ≡ 0 → Read t r
-    closed first fs last r l o c g (closes-33 z) e = absurd (omega arith)
-    closed first fs last r l o c g (closes-31 z) e = absurd (omega arith)
-    closed first fs last r l o c g closes-34 e = absurd (omega arith)
-    closed first fs last r l o c g (closes-0 s j) e = record {
+        → word first 0 ≡ ascii "cosim" → Runs blank 2 fs last → ((i : ℕ) → Spelled (getD fs i []))
+        → Proper last → Closes room last r → r .number ≡ 0 → Read t r
+    closed first fs last r l o c n g (closes-33 z) e = absurd (omega arith)
+    closed first fs last r l o c n g (closes-31 z) e = absurd (omega arith)
+    closed first fs last r l o c n g (closes-34 h) e = absurd (omega arith)
+    closed first fs last r l o c n g (closes-0 s j) e = record {
       first = first;
       below = fs;
       draft = last;
       lines = l;
       opened = o;
       run = c;
+      spelled = n;
       proper = g;
       some = s;
       joined = j;
@@ -183,7 +187,7 @@ text-read room t = go (reading room t) (text-reads room t)
     come : (first : Row) (fs : List Row) (r : Reading) → rows t ≡ first ∷ fs
         → word first 0 ≡ ascii "cosim" → Comes room blank 2 fs r → r .number ≡ 0 → Read t r
     come first fs r l o (to-line i j n h p a q z) x = absurd (z x)
-    come first fs r l o (to-end last s c g z) x = closed first fs last s l o c g z x
+    come first fs r l o (to-end last s c n g z) x = closed first fs last s l o c n g z x
 
     go : (r : Reading) → Reads room t r → r .number ≡ 0 → Read t r
     go r reads-20 e = absurd (omega arith)

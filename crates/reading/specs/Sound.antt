@@ -10,10 +10,13 @@ use Rattle.table.specs.Packed.{units, outputs, inputs, feeds, shapeOf}
 use Rattle.table.specs.Sound.{Sound}
 use Rattle.table.specs.Check.{refusal}
 use Rattle.table.specs.Checked.{sound-passed}
+use Rattle.grammar.specs.Rows.{rows}
 use Rattle.grammar.specs.Draft.{Draft, Output, Input, noInput, loose}
 use Rattle.grammar.specs.Reading.{Reading, reading, packed, pairs as feedPairs}
 use Rattle.reading.specs.Proper.{Proper, noOutput, noFeed}
 use Rattle.reading.specs.Reads.{not-loose, text-read}
+use Rattle.reading.specs.Numbers.{numbered}
+use Rattle.reading.specs.Numbered.{read-numbered}
 use Rattle.reading.specs.Parts.{map-at, pairs-long, pairs-input, pairs-output, long, output-owners, input-owners, kinds-are, sources-are, pairs-are}
 
 -- ---- a proper draft with a unit, whose inputs are all joined
@@ -120,3 +123,7 @@ read-sound room t e =
 -- and the packed check answers 0 on it
 pub read-checked : (room : ℕ) (t : List ℕ) → reading room t .number ≡ 0 → refusal (reading room t .bytes) ≡ 0
 read-checked room t e = sound-passed (reading room t .bytes) (read-sound room t e)
+
+-- so is the table of its lines, numbered in line order, which is the same
+pub lines-sound : (room : ℕ) (t : List ℕ) → reading room t .number ≡ 0 → Sound (numbered (rows t))
+lines-sound room t e = subst Sound (read-numbered room t e) (read-sound room t e)

@@ -2,6 +2,7 @@
 use mathlib.Core.Path.{_≡_, refl}
 use mathlib.Core.Bool.{Bool, true, false, not}
 use Prim.Native.Nat.{ℕ, zero, suc, _+_, _≤_, _<_}
+use native.Mathlib.Nat.{add-zero, add-suc}
 use native.Mathlib.Omega.{arith}
 use native.Mathlib.Decide.{ℕ-discrete}
 use lib.Dec.{T}
@@ -26,6 +27,12 @@ pub count-le : (q : ℕ → Bool) (n : ℕ) → count q n ≤ n
 unfolding count
 count-le q zero = omega arith
 count-le q (suc n) = omega (arith, bit-le (q n), count-le q n)
+
+-- n numbers more count at most n more
+pub count-past : (q : ℕ → Bool) (u n : ℕ) → count q (u + n) ≤ count q u + n
+unfolding count
+count-past q u zero = rw (add-zero u) (omega arith)
+count-past q u (suc n) = rw (add-suc u n) (omega (arith, bit-le (q (u + n)), count-past q u n))
 
 -- two tests that agree below n count alike
 pub count-same : (q r : ℕ → Bool) (n : ℕ) → ((i : ℕ) → i < n → q i ≡ r i) → count q n ≡ count r n

@@ -6,7 +6,8 @@ use native.Mathlib.Omega.{arith}
 use Rattle.pen.specs.Decimal.{decimal}
 use Rattle.pen.specs.Chain.{decimal-long, wrote-long}
 use Rattle.printing.proofs.Fielded.{ended-long}
-use Rattle.printing.proofs.Whole.{listed-not, refusal-long, refusal-all}
+use Rattle.printing.specs.Lengths.{refusal-long}
+use Rattle.printing.proofs.Whole.{listed-not, refusal-all}
 
 digit-count-requires : tie.Need-digit-count-requires
 digit-count-requires c κs = search needs

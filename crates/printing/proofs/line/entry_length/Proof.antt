@@ -5,7 +5,7 @@ use Rattle.printing.proofs.line.entry_length.Tie as tie
 use Rattle.pen.specs.Chain.{decimal-long}
 use native.Mathlib.Omega.{arith}
 use mathlib.Core.Path.{sym}
-use Rattle.printing.proofs.Fielded.{entry-long}
+use Rattle.printing.specs.Lengths.{entry-long}
 
 digit-count-requires : tie.Need-digit-count-requires
 digit-count-requires c κs = search needs
