@@ -1,5 +1,6 @@
 pub mod Number
 pub mod Precedence
+pub mod Computed
 pub mod Numbers
 pub mod Neighbours
 pub mod Determined

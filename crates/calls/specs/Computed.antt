@@ -1,0 +1,51 @@
+-- Precedence on document 01's tables, computed: a definition that says something else makes one of them false.
+use mathlib.Core.Path.{_≡_, refl}
+use mathlib.Core.Bool.{true, false}
+use native.Mathlib.Omega.{arith}
+use Rattle.table.specs.Packed.{shapeOf}
+use Rattle.table.specs.Tables.{A, G, itself}
+use Rattle.table.specs.Computed.{words as table-words}
+use Rattle.calls.specs.Number.{callIn}
+use Rattle.calls.specs.Precedence.{
+  Precedes,
+  step-get,
+  get-set,
+  set-get,
+  set-step,
+  step-set,
+  feedsTo,
+  hasKind,
+  byKind,
+  before,
+  precedes,
+}
+
+-- all that precedence is computed with: `unfolding words` opens each of them
+unfoldable pub words : Unit {0}
+unfolding table-words callIn feedsTo hasKind byKind before precedes
+words = tt
+
+-- the five sentences: the pump's step, get of its output, set of the tank's input, the tank's step; the feed of G
+pub sentences :
+    Precedes (shapeOf A) 0 2
+    × Precedes (shapeOf A) 2 5
+    × Precedes (shapeOf G) 5 3
+    × Precedes (shapeOf A) 5 1
+    × Precedes (shapeOf A) 0 4
+unfolding words
+sentences = (
+  step-get 0 (omega arith) refl refl,
+  get-set 1 (omega arith) refl refl,
+  set-get 0 (omega arith) refl refl,
+  set-step 1 (omega arith) refl refl refl,
+  step-set 0 (omega arith) refl refl refl,
+)
+
+-- the test: a feed comes before the get and not before the step; a unit joined to itself waits if its input is reactive
+pub tests :
+    (precedes (shapeOf G) 5 3 ≡ true)
+    × (precedes (shapeOf G) 5 1 ≡ false)
+    × (precedes (shapeOf (itself 1)) 2 0 ≡ true)
+    × (precedes (shapeOf (itself 0)) 2 0 ≡ false)
+unfolding words
+tests = (refl, refl, refl, refl)
