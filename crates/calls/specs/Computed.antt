@@ -1,4 +1,4 @@
--- Precedence on document 01's tables, computed: a definition that says something else makes one of them false.
+-- Precedence on document 01's tables, computed: a definition that says something else makes one false.
 use mathlib.Core.Path.{_≡_, refl}
 use mathlib.Core.Bool.{true, false}
 use native.Mathlib.Omega.{arith}
@@ -25,7 +25,7 @@ unfoldable pub words : Unit {0}
 unfolding table-words callIn feedsTo hasKind byKind before precedes
 words = tt
 
--- the five sentences: the pump's step, get of its output, set of the tank's input, the tank's step; the feed of G
+-- one pair of calls for each of the five sentences
 pub sentences :
     Precedes (shapeOf A) 0 2
     × Precedes (shapeOf A) 2 5
@@ -41,7 +41,7 @@ sentences = (
   step-set 0 (omega arith) refl refl refl,
 )
 
--- the test: a feed comes before the get and not before the step; a unit joined to itself waits if its input is reactive
+-- G's feed is an edge to the get and not to the step; a unit joined to itself waits only where its input is reactive
 pub tests :
     (precedes (shapeOf G) 5 3 ≡ true)
     × (precedes (shapeOf G) 5 1 ≡ false)

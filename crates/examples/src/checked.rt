@@ -58,6 +58,10 @@ fn feeds() {
     gives(b"check of C, feeds (0,0) (0,1)", check(&c_fed(0, 0, 0, 1)));
     gives(b"check of C, feeds (1,1) (1,1)", check(&c_fed(1, 1, 1, 1)));
     gives(
+        b"check of C, feeds (1,1) (1,1) (0,1)",
+        check(&[2u8, 2, 2, 3, 0, 1, 0, 1, 0, 0, 1, 0, 1, 1, 1, 1, 0, 1]),
+    );
+    gives(
         b"check of an input that feeds two outputs",
         check(&[1u8, 2, 1, 2, 0, 0, 0, 0, 0, 0, 0, 0, 1]),
     );

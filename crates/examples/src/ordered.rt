@@ -51,7 +51,7 @@ fn document() {
 // Those of its readings, and others.
 fn others() {
     order_of(b"order of a call that waits behind a cycle", &BEHIND);
-    order_of(b"order of calls placed beside a cycle", &BESIDE);
+    order_of(b"order of calls beside a cycle", &BESIDE);
     order_of(b"order of a second output fed", &SECOND_FED);
     order_of(b"order of A, input 0 of kind 2", &a_with(8, 2));
     five_for(
@@ -61,13 +61,13 @@ fn others() {
 }
 
 fn placed() {
-    placed_of(b"placed of A", &A);
-    placed_of(b"placed of G", &G);
-    placed_of(b"placed beside a cycle", &BESIDE);
-    placed_of(b"placed of A, input 0 of kind 2", &a_with(8, 2));
+    placed_of(b"place_all of A", &A);
+    placed_of(b"place_all of G", &G);
+    placed_of(b"place_all of calls beside a cycle", &BESIDE);
+    placed_of(b"place_all of A, input 0 of kind 2", &a_with(8, 2));
     let mut five = [99u8; 5];
     let answer = place_all(&A, &mut five);
-    leaves(b"placed of A in five bytes", answer, &five);
+    leaves(b"place_all of A in five bytes", answer, &five);
 }
 
 pub fn all() {

@@ -15,10 +15,10 @@ pub const G: [u8; 14] = [2, 2, 2, 1, 0, 1, 0, 1, 0, 0, 1, 0, 1, 1];
 // One unit and no port.
 pub const ALONE: [u8; 4] = [1, 0, 0, 0];
 
-// Three units: 1 and 2 are joined in a ring, 0 reads from it.
+// Three units, every input reactive: 1 and 2 are joined to themselves, 0 reads from 2.
 pub const BEHIND: [u8; 15] = [3, 2, 3, 0, 1, 2, 1, 2, 0, 1, 1, 1, 0, 1, 1];
 
-// Three units: 0 is joined to itself delayed, 1 reactive, 2 has no port.
+// Three units: 0 is joined to itself by a delayed input, 1 by a reactive one, 2 has no port.
 pub const BESIDE: [u8; 12] = [3, 2, 2, 0, 0, 1, 0, 1, 0, 1, 0, 1];
 
 // One unit with two outputs; its input is joined to the first and feeds the second.

@@ -5,6 +5,7 @@ use desk::Reading;
 use desk::oorlichday_list;
 use desk::oorlichday_read;
 use table::Answer;
+use table::parts::stretch;
 
 // A reading as an answer.
 fn answered(reading: Reading) -> Answer {
@@ -57,9 +58,25 @@ fn refused() {
     read(b"oorlichday_read of 300 lines, the last not ended", &lines);
 }
 
-pub fn all() {
-    in_buffers(
-        b"cosim\t1\nunit\tpump\nunit\ttank\nout\tpump\tflow\nout\ttank\tlevel\nin\tpump\tlevel\tdelayed\nin\ttank\tflow\treactive\njoin\tpump\tflow\ttank\tflow\njoin\ttank\tlevel\tpump\tlevel\n",
+// Document 01's text at the front of a buffer; gives its length.
+fn put_document(text: &mut [u8]) -> usize {
+    let mut at = pen::put(text, 0, b"cosim\t1\nunit\tpump\nunit\ttank\n");
+    at = pen::put(text, at, b"out\tpump\tflow\nout\ttank\tlevel\n");
+    at = pen::put(
+        text,
+        at,
+        b"in\tpump\tlevel\tdelayed\nin\ttank\tflow\treactive\n",
     );
+    pen::put(
+        text,
+        at,
+        b"join\tpump\tflow\ttank\tflow\njoin\ttank\tlevel\tpump\tlevel\n",
+    )
+}
+
+pub fn all() {
+    let mut text = [0u8; 200];
+    let length = put_document(&mut text);
+    in_buffers(stretch(&text, 0, length));
     refused();
 }

@@ -1,4 +1,4 @@
--- Records and judged runs on document 01's table A, computed: a definition that says something else makes one false.
+-- Records and judged runs on table A, computed: a definition that says something else makes one false.
 use mathlib.Core.Path.{_≡_, refl}
 use mathlib.Core.Bool.{true}
 use mathlib.Core.List.{[], _∷_}
@@ -23,7 +23,7 @@ words = tt
 abbrev given : ℕ → ℕ → Record
 given kind number = record { kind = kind; number = number }
 
--- step 1, get 1, set 1; a step's number not below U, and a kind above 2, are no call
+-- step 1, get 1, set 1; a step's number that is not below U and a kind above 2 are no call
 pub records :
     (allNumbered (shapeOf A) (given 0 1 ∷ given 1 1 ∷ given 2 1 ∷ []) ≡ 1 ∷ 3 ∷ 5 ∷ [])
     × (verdictOf A (allNumbered (shapeOf A) (given 0 2 ∷ [])) ≡ answer 11 0)
@@ -38,7 +38,7 @@ with-done run c = record { done = set (run .done) c true }
 abbrev hands : Run → ℕ → Taken
 hands run number = record { run = run; number = number }
 
--- a call that is taken; refusals, each with the run as it was: of step 1, and of step 0 where only set 4 is done
+-- a call taken; step 1 refused, and step 0 where only set 4 is done, each with the run as it was
 pub runs :
     (taken A fresh 0 ≡ hands (with-done fresh 0) 0)
     × (taken A fresh 1 ≡ hands fresh 14)

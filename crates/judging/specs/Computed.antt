@@ -1,4 +1,4 @@
--- Document 01's verdicts, computed: a definition that says something else makes one of them false.
+-- Document 01's verdicts, computed: a definition that says something else makes one false.
 use mathlib.Core.Path.{_≡_, refl}
 use mathlib.Core.List.{[], _∷_}
 use Rattle.table.specs.Tables.{A, C, G}

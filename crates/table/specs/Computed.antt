@@ -1,4 +1,4 @@
--- The check on examples, computed: a definition that says something else makes one of them false.
+-- The check on examples, computed: a definition that says something else makes one false.
 use mathlib.Core.Path.{_≡_, refl}
 use mathlib.Core.List.{[], _∷_}
 use Rattle.search.specs.Every.{every, some}
@@ -26,11 +26,12 @@ use Rattle.table.specs.Check.{
   refusal,
   checked,
 }
-use Rattle.table.specs.Tables.{A}
+use Rattle.table.specs.Tables.{A, C-with}
 
 -- all that a check is computed with: `unfolding words` opens each of them
 unfoldable pub words : Unit {0}
-unfolding every some units outputs inputs feeds outputOwners inputOwners kinds sources pairs asked refuse countsIn allBelow isPair feedKnown feedAgain feedsFrom wiring refusal checked
+unfolding every some units outputs inputs feeds outputOwners inputOwners kinds sources pairs asked
+    refuse countsIn allBelow isPair feedKnown feedAgain feedsFrom wiring refusal checked
 words = tt
 
 pub checks :
@@ -38,8 +39,8 @@ pub checks :
     (checked A ≡ record { number = 0; place = 6 })
     × (checked (32 ∷ 0 ∷ 0 ∷ 0 ∷ []) ≡ record { number = 0; place = 32 })
     × (checked (33 ∷ 0 ∷ 0 ∷ 0 ∷ []) ≡ record { number = 2; place = 0 })
-    -- C with a feed from the pump's input to the tank's output, and with feed (1,1) given twice
-    × (checked (2 ∷ 2 ∷ 2 ∷ 1 ∷ 0 ∷ 1 ∷ 0 ∷ 1 ∷ 0 ∷ 0 ∷ 1 ∷ 0 ∷ 0 ∷ 1 ∷ []) ≡ record { number = 6; place = 0 })
-    × (checked (2 ∷ 2 ∷ 2 ∷ 2 ∷ 0 ∷ 1 ∷ 0 ∷ 1 ∷ 0 ∷ 0 ∷ 1 ∷ 0 ∷ 1 ∷ 1 ∷ 1 ∷ 1 ∷ []) ≡ record { number = 7; place = 0 })
+    -- C with feed (0,1), whose owners differ, and with feed (1,1) given twice
+    × (checked (C-with 1 (0 ∷ 1 ∷ [])) ≡ record { number = 6; place = 0 })
+    × (checked (C-with 2 (1 ∷ 1 ∷ 1 ∷ 1 ∷ [])) ≡ record { number = 7; place = 0 })
 unfolding words
 checks = (refl, refl, refl, refl, refl)

@@ -1,4 +1,4 @@
--- A run and a solution on document 01's table A, computed: a definition that says something else makes one false.
+-- A run and a solution on table A, computed: a definition that says something else makes one false.
 use mathlib.Core.Path.{_≡_, refl}
 use mathlib.Core.List.{List, [], _∷_}
 use Prim.Native.Nat.{ℕ, zero, suc, _<_}
@@ -50,10 +50,11 @@ ending order = run (shapeOf A) adding start order
 abbrev pub right : List ℕ
 right = 0 ∷ 2 ∷ 5 ∷ 1 ∷ 3 ∷ 4 ∷ []
 
--- the run of the order ends at the new values, all at the new time
+-- the new value, at the new time
 abbrev later : ℕ → Held ℤ
 later a = record { value = new a; time = 1 }
 
+-- the run of the order ends there, at every number
 pub ends :
     (ending right 0 ≡ later 0)
     × (ending right 1 ≡ later 1)
@@ -70,7 +71,7 @@ both P p q zero h = p
 both P p q (suc zero) h = q
 both P p q (suc (suc k)) h = absurd (omega arith)
 
--- they solve the equations
+-- the new values solve the equations
 pub solution : Solves (shapeOf A) adding old new
 unfolding words
 solution = record { states = both _ refl refl; outputs = both _ refl refl; inputs = both _ refl refl }

@@ -1,4 +1,4 @@
--- Demand 3 is not empty: on table A an order is passed whose end is computed, and refused orders end elsewhere.
+-- Demand 3 is not empty: on table A the order that `Computed` runs is passed, and refused orders end elsewhere.
 use mathlib.Core.Path.{_≡_, refl, ap}
 use mathlib.Core.List.{List, [], _∷_}
 use Prim.Native.Nat.{ℕ}
@@ -12,7 +12,6 @@ use Rattle.twin.specs.Equations.{Solves}
 use Rattle.twin.specs.Computed.{words, adding, start, ending, right}
 use Rattle.twin.specs.Demand.{values}
 
--- the order of which `Computed` has the end
 pub right-passed : verdictOf A right ≡ answer 0 6
 unfolding verdict-words
 right-passed = refl
