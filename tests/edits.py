@@ -1,6 +1,6 @@
 #!/usr/bin/env python3
 """Holds each must-fail edit to its reason, after `rt ci`. Lines of the edit say which:
-at: FILE            the prover's first error is a fact of FILE that fails: a computed example, or a statement on a contract
+at: FILE            the first error of FILE is a fact of it that fails: a computed example, or a statement on a contract
 run: examples       the program, run without proof on the edited sources, writes something else than its file `stdout`
 run: lister NAME    the lister does so on the stored text tests/lister/NAME.in
 `tests/edits.py CRATE/LABEL ...` holds only these."""
@@ -21,13 +21,12 @@ PROGRAMS = {"examples": 1, "lister": 2}  # how many words a reason has
 
 
 def refused_at(edit, file):
-    """Whether the prover's first error is a fact of the named file that fails, and not its shape or a consequence."""
+    """Whether a fact of the named file fails, and not its shape or a consequence; other files' errors may stand above."""
     log = ROOT / f"target/must-fail/{edit.parent.parent.name}/{edit.stem}/.log"
     lines = log.read_text(encoding="utf-8").splitlines() if log.exists() else []
-    first = next((line for line in lines if ": error: " in line), "")
-    in_file = f"/{file}:" in first.partition(": error: ")[0]
-    shape = any(f"/{file}:" in line and BY_SHAPE in line for line in lines)
-    return in_file and "was not admitted" not in first and not shape
+    there = [line for line in lines if f"/{file}:" in line.partition(": error: ")[0]]
+    first = next((line for line in there if ": error: " in line), "was not admitted")
+    return "was not admitted" not in first and not any(BY_SHAPE in line for line in there)
 
 
 def apply(edit, crates):

@@ -1,4 +1,5 @@
 pub mod Number
 pub mod Precedence
+pub mod Computed
 pub mod Numbers
 pub mod Neighbours

@@ -1,3 +1,2 @@
-pub mod Tables
 pub mod Verdicts
 pub mod Orders

@@ -2,7 +2,7 @@ pub mod Marks
 pub mod Scans
 pub mod Taken
 pub mod CallByCall
-pub mod Answered
 pub mod InTurn
 pub mod Records
 pub mod Carried
+pub mod Computed

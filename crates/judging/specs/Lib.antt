@@ -1,6 +1,7 @@
 pub mod Conditions
 pub mod Passes
 pub mod Verdict
+pub mod Computed
 pub mod Met
 pub mod Judged
 pub mod Place

@@ -4,6 +4,7 @@ pub mod First
 pub mod Sort
 pub mod Walk
 pub mod Turn
+pub mod Computed
 pub mod Follows
 pub mod Apart
 pub mod Unique

@@ -3,6 +3,8 @@ pub mod Packed
 pub mod Sound
 pub mod Check
 pub mod Outcome
+pub mod Tables
+pub mod Computed
 pub mod Layout
 pub mod Chain
 pub mod Wiring

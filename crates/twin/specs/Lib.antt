@@ -1,6 +1,7 @@
 pub mod Rules
 pub mod Run
 pub mod Equations
+pub mod Computed
 pub mod Midway
 pub mod Solved
 pub mod Demand

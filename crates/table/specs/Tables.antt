@@ -10,17 +10,17 @@ A = 2 ∷ 2 ∷ 2 ∷ 0 ∷ 0 ∷ 1 ∷ 0 ∷ 1 ∷ 0 ∷ 1 ∷ 1 ∷ 0 ∷ []
 abbrev pub A-reactive : List ℕ
 A-reactive = 2 ∷ 2 ∷ 2 ∷ 0 ∷ 0 ∷ 1 ∷ 0 ∷ 1 ∷ 1 ∷ 1 ∷ 1 ∷ 0 ∷ []
 
--- C: A with both inputs delayed
-abbrev pub C : List ℕ
-C = 2 ∷ 2 ∷ 2 ∷ 0 ∷ 0 ∷ 1 ∷ 0 ∷ 1 ∷ 0 ∷ 0 ∷ 1 ∷ 0 ∷ []
+-- A with both inputs delayed, and so many feeds with their pairs
+abbrev pub C-with : ℕ → List ℕ → List ℕ
+C-with feeds pairs = 2 ∷ 2 ∷ 2 ∷ feeds ∷ 0 ∷ 1 ∷ 0 ∷ 1 ∷ 0 ∷ 0 ∷ 1 ∷ 0 ∷ pairs
 
--- C with feeds (0,0), (1,1)
-abbrev pub C-fed : List ℕ
-C-fed = 2 ∷ 2 ∷ 2 ∷ 2 ∷ 0 ∷ 1 ∷ 0 ∷ 1 ∷ 0 ∷ 0 ∷ 1 ∷ 0 ∷ 0 ∷ 0 ∷ 1 ∷ 1 ∷ []
+-- C: no feeds
+abbrev pub C : List ℕ
+C = C-with 0 []
 
 -- G: C with feed (1,1)
 abbrev pub G : List ℕ
-G = 2 ∷ 2 ∷ 2 ∷ 1 ∷ 0 ∷ 1 ∷ 0 ∷ 1 ∷ 0 ∷ 0 ∷ 1 ∷ 0 ∷ 1 ∷ 1 ∷ []
+G = C-with 1 (1 ∷ 1 ∷ [])
 
 -- one unit and no port
 abbrev pub alone : List ℕ

@@ -1,5 +1,5 @@
-use Rattle.examples.proofs.greatest.Statement.{statement}
-use Rattle.examples.proofs.greatest.Tie as tie
+use Rattle.examples.proofs.tables.greatest.Statement.{statement}
+use Rattle.examples.proofs.tables.greatest.Tie as tie
 use borrow.Author.Needs.{needs}
 use Prim.Native.Nat.{_≤_, _-_}
 use mathlib.Core.Path.{_≡_}

@@ -1,0 +1,77 @@
+// Orders and cycles, and what can be placed. Each buffer is lent full of 99, and printed whole.
+use crate::lines::leaves;
+use crate::tables::A;
+use crate::tables::A_REACTIVE;
+use crate::tables::ALONE;
+use crate::tables::BEHIND;
+use crate::tables::BESIDE;
+use crate::tables::C;
+use crate::tables::G;
+use crate::tables::SECOND_FED;
+use crate::tables::a_with;
+use crate::tables::c_fed;
+use crate::tables::itself;
+use placing::place::place_all;
+use sorter::order::order;
+
+// The order or the cycle, with more room than it takes.
+fn order_of(name: &[u8], table: &[u8]) {
+    let mut buffer = [99u8; 9];
+    let answer = order(table, &mut buffer);
+    leaves(name, answer, &buffer);
+}
+
+// The same with a buffer of five bytes.
+fn five_for(name: &[u8], table: &[u8]) {
+    let mut buffer = [99u8; 5];
+    let answer = order(table, &mut buffer);
+    leaves(name, answer, &buffer);
+}
+
+// All calls that can be placed.
+fn placed_of(name: &[u8], table: &[u8]) {
+    let mut buffer = [99u8; 8];
+    let answer = place_all(table, &mut buffer);
+    leaves(name, answer, &buffer);
+}
+
+// Those of SPECIFICATION, Examples.
+fn document() {
+    order_of(b"order of A", &A);
+    order_of(b"order of A, both reactive", &A_REACTIVE);
+    order_of(b"order of C", &C);
+    order_of(b"order of C, feeds (0,0) (1,1)", &c_fed(0, 0, 1, 1));
+    order_of(b"order of G", &G);
+    order_of(b"order of one unit", &ALONE);
+    order_of(b"order of a unit joined to itself, delayed", &itself(0));
+    order_of(b"order of a unit joined to itself, reactive", &itself(1));
+    five_for(b"order of A in five bytes", &A);
+}
+
+// Those of its readings, and others.
+fn others() {
+    order_of(b"order of a call that waits behind a cycle", &BEHIND);
+    order_of(b"order of calls beside a cycle", &BESIDE);
+    order_of(b"order of a second output fed", &SECOND_FED);
+    order_of(b"order of A, input 0 of kind 2", &a_with(8, 2));
+    five_for(
+        b"order of a cycle of four in five bytes",
+        &c_fed(0, 0, 1, 1),
+    );
+}
+
+fn placed() {
+    placed_of(b"place_all of A", &A);
+    placed_of(b"place_all of G", &G);
+    placed_of(b"place_all of calls beside a cycle", &BESIDE);
+    placed_of(b"place_all of A, input 0 of kind 2", &a_with(8, 2));
+    let mut five = [99u8; 5];
+    let answer = place_all(&A, &mut five);
+    leaves(b"place_all of A in five bytes", answer, &five);
+}
+
+pub fn all() {
+    document();
+    others();
+    placed();
+}
