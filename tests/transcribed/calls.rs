@@ -77,14 +77,14 @@ pub fn set_no(s: &Shape, x: u64) -> u64 {
 //|   step-set : (x : ℕ) → x < s .inputs → s .kind x ≡ 0 → a ≡ stepNo (s .inputOwner x) → b ≡ setNo s x
 //|     → Precedes s a b
 pub fn Precedes(s: &Shape, a: u64, b: u64) -> bool {
-    let step_get = any(s.outputs, |y| a == step_no((s.output_owner)(y)) && b == get_no(s, y));
-    let get_set = any(s.inputs, |x| a == get_no(s, (s.source)(x)) && b == set_no(s, x));
+    let step_get = any(s.outputs, &|y| a == step_no((s.output_owner)(y)) && b == get_no(s, y));
+    let get_set = any(s.inputs, &|x| a == get_no(s, (s.source)(x)) && b == set_no(s, x));
     let set_get =
-        any(s.feeds, |k| a == set_no(s, (s.feed_input)(k)) && b == get_no(s, (s.feed_output)(k)));
-    let set_step = any(s.inputs, |x| {
+        any(s.feeds, &|k| a == set_no(s, (s.feed_input)(k)) && b == get_no(s, (s.feed_output)(k)));
+    let set_step = any(s.inputs, &|x| {
         (s.kind)(x) == 1 && a == set_no(s, x) && b == step_no((s.input_owner)(x))
     });
-    let step_set = any(s.inputs, |x| {
+    let step_set = any(s.inputs, &|x| {
         (s.kind)(x) == 0 && a == step_no((s.input_owner)(x)) && b == set_no(s, x)
     });
     step_get || get_set || set_get || set_step || step_set

@@ -132,12 +132,12 @@ pub fn Allows(s: &Shape, done: Test, call: Call) -> bool {
     let of_kind = |x, u, kind| (s.input_owner)(x) == u && (s.kind)(x) == kind;
     match call {
         Step(u) => {
-            each(s.inputs, |x| implies(of_kind(x, u, 0), || !done(set_no(s, x))))
-                && each(s.inputs, |x| implies(of_kind(x, u, 1), || done(set_no(s, x))))
+            each(s.inputs, &|x| implies(of_kind(x, u, 0), || !done(set_no(s, x))))
+                && each(s.inputs, &|x| implies(of_kind(x, u, 1), || done(set_no(s, x))))
         }
         Get(y) => {
             done(step_no((s.output_owner)(y)))
-                && each(s.feeds, |k| {
+                && each(s.feeds, &|k| {
                     implies((s.feed_output)(k) == y, || done(set_no(s, (s.feed_input)(k))))
                 })
         }
@@ -156,8 +156,8 @@ pub fn Meets(s: &Shape, done: Test, c: u64) -> bool {
 //|     pub meets : (i : ℕ) → i < length l → Meets (after done (take i l)) (getD l i 0)
 //|     pub whole : (c : ℕ) → c < total s → T (after done l c)
 pub fn Passes(s: &Shape, done: Test, l: &[u64]) -> bool {
-    let meets = each(length(l), |i| Meets(s, &|x| after(done, take(i, l), x), get_d(l, i, 0)));
-    let whole = each(total(s), |c| after(done, l, c));
+    let meets = each(length(l), &|i| Meets(s, &|x| after(done, take(i, l), x), get_d(l, i, 0)));
+    let whole = each(total(s), &|c| after(done, l, c));
     meets && whole
 }
 
@@ -167,7 +167,7 @@ pub fn Passes(s: &Shape, done: Test, l: &[u64]) -> bool {
 //|   abbrev pub MeetsAll : (ℕ → Bool) → List ℕ → ℕ → Type 0
 //|   MeetsAll done l n = (i : ℕ) → i < n → Meets s (after done (take i l)) (getD l i 0)
 pub fn MeetsAll(s: &Shape, done: Test, l: &[u64], n: u64) -> bool {
-    each(n, |i| Meets(s, &|x| after(done, take(i, l), x), get_d(l, i, 0)))
+    each(n, &|i| Meets(s, &|x| after(done, take(i, l), x), get_d(l, i, 0)))
 }
 
 // ---- crates/judging/specs/Place.antt
@@ -185,7 +185,7 @@ pub fn Tells(s: &Shape, done: Test, l: &[u64], k: u64, a: Answer) -> bool {
     let (long, all) = (length(l), MeetsAll(s, done, l, length(l)));
     let passed = all && k + long == total(s) && a == answer(0, k + long);
     let ended = all && k + long < total(s) && a == answer(18, k + long);
-    let refused = any(long, |i| {
+    let refused = any(long, &|i| {
         let (then, c) = (|x| after(done, take(i, l), x), get_d(l, i, 0));
         k + i <= total(s)
             && MeetsAll(s, done, l, i)

@@ -44,12 +44,12 @@ pub fn append<A: Clone>(first: &[A], second: &[A]) -> Vec<A> {
 }
 
 // (i : ℕ) → i < n → ...
-pub fn each(n: u64, test: impl Fn(u64) -> bool) -> bool {
+pub fn each(n: u64, test: Test) -> bool {
     (0..n).all(test)
 }
 
 // (i : ℕ) × (i < n) × ...
-pub fn any(n: u64, test: impl Fn(u64) -> bool) -> bool {
+pub fn any(n: u64, test: Test) -> bool {
     (0..n).any(test)
 }
 

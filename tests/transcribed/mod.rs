@@ -35,4 +35,5 @@ pub mod reading;
 pub mod search;
 pub mod sorter;
 pub mod table;
+pub mod text;
 pub mod twin;

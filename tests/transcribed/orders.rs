@@ -14,10 +14,10 @@ use super::search::{add, least_from, none, some};
 //|     pub rules : (i j : ℕ) → i < length l → j < length l → T (pred (getD l i 0) (getD l j 0)) → i < j
 pub fn Keeps(N: u64, pred: Relation, l: &[u64]) -> bool {
     let (long, at) = (length(l), |i| get_d(l, i, 0));
-    let calls = each(long, |i| at(i) < N);
-    let holds = each(N, |c| any(long, |i| at(i) == c));
-    let once = each(long, |i| each(long, |j| implies(at(i) == at(j), || i == j)));
-    let rules = each(long, |i| each(long, |j| implies(pred(at(i), at(j)), || i < j)));
+    let calls = each(long, &|i| at(i) < N);
+    let holds = each(N, &|c| any(long, &|i| at(i) == c));
+    let once = each(long, &|i| each(long, &|j| implies(at(i) == at(j), || i == j)));
+    let rules = each(long, &|i| each(long, &|j| implies(pred(at(i), at(j)), || i < j)));
     calls && holds && once && rules
 }
 
@@ -32,8 +32,8 @@ pub fn Keeps(N: u64, pred: Relation, l: &[u64]) -> bool {
 pub fn Cycle(N: u64, pred: Relation, l: &[u64]) -> bool {
     let (long, at) = (length(l), |i| get_d(l, i, 0));
     let any = 0 < long;
-    let calls = each(long, |i| at(i) < N);
-    let next = each(long, |i| implies(i + 1 < long, || pred(at(i), at(i + 1))));
+    let calls = each(long, &|i| at(i) < N);
+    let next = each(long, &|i| implies(i + 1 < long, || pred(at(i), at(i + 1))));
     let last = pred(at(long.saturating_sub(1)), at(0));
     any && calls && next && last
 }
@@ -44,8 +44,8 @@ pub fn Cycle(N: u64, pred: Relation, l: &[u64]) -> bool {
 //| NoLater l m =
 //|     (i : ℕ) → i < length l → ((j : ℕ) → j < i → getD l j 0 ≡ getD m j 0) → getD l i 0 ≤ getD m i 0
 pub fn NoLater(l: &[u64], m: &[u64]) -> bool {
-    each(length(l), |i| {
-        implies(each(i, |j| get_d(l, j, 0) == get_d(m, j, 0)), || get_d(l, i, 0) <= get_d(m, i, 0))
+    each(length(l), &|i| {
+        implies(each(i, &|j| get_d(l, j, 0) == get_d(m, j, 0)), || get_d(l, i, 0) <= get_d(m, i, 0))
     })
 }
 
@@ -205,7 +205,7 @@ pub fn shown(N: u64, pred: Relation, done: Test) -> Vec<u64> {
 //| Once l = (i j : ℕ) → i < length l → j < length l → getD l i 0 ≡ getD l j 0 → i ≡ j
 pub fn Once(l: &[u64]) -> bool {
     let (long, at) = (length(l), |i| get_d(l, i, 0));
-    each(long, |i| each(long, |j| implies(at(i) == at(j), || i == j)))
+    each(long, &|i| each(long, &|j| implies(at(i) == at(j), || i == j)))
 }
 
 // ---- crates/orders/specs/Shown.antt
@@ -217,7 +217,7 @@ pub fn Once(l: &[u64]) -> bool {
 //|     pub once : Once l
 pub fn Shown(N: u64, pred: Relation, l: &[u64]) -> bool {
     let cycle = Cycle(N, pred, l);
-    let lowest = each(length(l), |i| get_d(l, 0, 0) <= get_d(l, i, 0));
+    let lowest = each(length(l), &|i| get_d(l, 0, 0) <= get_d(l, i, 0));
     let once = Once(l);
     cycle && lowest && once
 }

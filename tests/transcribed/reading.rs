@@ -128,27 +128,27 @@ pub fn InOrder(fs: &[Row], s: &Shape) -> bool {
     let output_lines = s.outputs == length(&outputs);
     let input_lines = s.inputs == length(&inputs);
     let feed_lines = s.feeds == length(&feeds);
-    let output_owner = each(s.outputs, |y| {
+    let output_owner = each(s.outputs, &|y| {
         let f = get_d(&outputs, y, vec![]);
         (s.output_owner)(y) == unit_number(fs, &word(&f, 1))
     });
-    let input_owner = each(s.inputs, |x| {
+    let input_owner = each(s.inputs, &|x| {
         let f = get_d(&inputs, x, vec![]);
         (s.input_owner)(x) == unit_number(fs, &word(&f, 1))
     });
-    let input_kind = each(s.inputs, |x| {
+    let input_kind = each(s.inputs, &|x| {
         let f = get_d(&inputs, x, vec![]);
         (s.kind)(x) == kind_of(&word(&f, 3))
     });
-    let input_source = each(s.inputs, |x| {
+    let input_source = each(s.inputs, &|x| {
         let f = get_d(&inputs, x, vec![]);
         (s.source)(x) == source_number(fs, &word(&f, 1), &word(&f, 2))
     });
-    let feed_input = each(s.feeds, |k| {
+    let feed_input = each(s.feeds, &|k| {
         let f = get_d(&feeds, k, vec![]);
         (s.feed_input)(k) == input_number(fs, &word(&f, 1), &word(&f, 2))
     });
-    let feed_output = each(s.feeds, |k| {
+    let feed_output = each(s.feeds, &|k| {
         let f = get_d(&feeds, k, vec![]);
         (s.feed_output)(k) == output_number(fs, &word(&f, 1), &word(&f, 3))
     });

@@ -58,6 +58,6 @@ pub fn fronted(bytes: &[u64], out: &[u64]) -> Vec<u64> {
 
 // ---- crates/search/specs/Determined.antt
 
-// Not computed.
 //| abbrev pub Determined : (A : Type 0) → A → Type 0
 //| Determined A value = (a b : A) → a ≡ value → b ≡ value → a ≡ b
+// Not computed.

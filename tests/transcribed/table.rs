@@ -59,15 +59,15 @@ pub fn total(s: &Shape) -> u64 {
 //|       → s .feedInput j ≡ s .feedInput k → s .feedOutput j ≡ s .feedOutput k → ⊥
 pub fn Wired(s: &Shape) -> bool {
     let (input, output) = (&s.feed_input, &s.feed_output);
-    let output_owned = each(s.outputs, |y| (s.output_owner)(y) < s.units);
-    let input_owned = each(s.inputs, |x| (s.input_owner)(x) < s.units);
-    let kind_known = each(s.inputs, |x| (s.kind)(x) <= 1);
-    let sourced = each(s.inputs, |x| (s.source)(x) < s.outputs);
-    let feed_input = each(s.feeds, |k| input(k) < s.inputs);
-    let feed_output = each(s.feeds, |k| output(k) < s.outputs);
-    let feed_unit = each(s.feeds, |k| (s.input_owner)(input(k)) == (s.output_owner)(output(k)));
+    let output_owned = each(s.outputs, &|y| (s.output_owner)(y) < s.units);
+    let input_owned = each(s.inputs, &|x| (s.input_owner)(x) < s.units);
+    let kind_known = each(s.inputs, &|x| (s.kind)(x) <= 1);
+    let sourced = each(s.inputs, &|x| (s.source)(x) < s.outputs);
+    let feed_input = each(s.feeds, &|k| input(k) < s.inputs);
+    let feed_output = each(s.feeds, &|k| output(k) < s.outputs);
+    let feed_unit = each(s.feeds, &|k| (s.input_owner)(input(k)) == (s.output_owner)(output(k)));
     let feed_once =
-        each(s.feeds, |k| each(k, |j| !(input(j) == input(k) && output(j) == output(k))));
+        each(s.feeds, &|k| each(k, &|j| !(input(j) == input(k) && output(j) == output(k))));
     output_owned
         && input_owned
         && kind_known

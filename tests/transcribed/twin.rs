@@ -133,14 +133,14 @@ pub fn Solves<Val: Clone + PartialEq>(
     new: &dyn Fn(u64) -> Val,
 ) -> bool {
     let seen = |x| if (s.kind)(x) == 0 { old(set_no(s, x)) } else { new(set_no(s, x)) };
-    let states = each(s.units, |u| {
+    let states = each(s.units, &|u| {
         new(step_no(u)) == (m.step_rule)(u, old(step_no(u)), &of_unit(s, u, &seen))
     });
-    let outputs = each(s.outputs, |y| {
+    let outputs = each(s.outputs, &|y| {
         let state = new(step_no((s.output_owner)(y)));
         new(get_no(s, y)) == (m.output_rule)(y, state, &feeding(s, y, &|x| new(set_no(s, x))))
     });
-    let inputs = each(s.inputs, |x| new(set_no(s, x)) == new(get_no(s, (s.source)(x))));
+    let inputs = each(s.inputs, &|x| new(set_no(s, x)) == new(get_no(s, (s.source)(x))));
     states && outputs && inputs
 }
 
@@ -148,13 +148,13 @@ pub fn Solves<Val: Clone + PartialEq>(
 //|   abbrev pub AtTime : ℕ → World Val → Type 0
 //|   AtTime n w = (a : ℕ) → a < total s → w a .time ≡ n
 pub fn AtTime<Val>(s: &Shape, n: u64, w: &World<Val>) -> bool {
-    each(total(s), |a| w(a).time == n)
+    each(total(s), &|a| w(a).time == n)
 }
 
 //|   abbrev pub Joined : World Val → Type 0
 //|   Joined w = (x : ℕ) → x < s .inputs → w (setNo s x) ≡ w (getNo s (s .source x))
 pub fn Joined<Val: PartialEq>(s: &Shape, w: &World<Val>) -> bool {
-    each(s.inputs, |x| w(set_no(s, x)) == w(get_no(s, (s.source)(x))))
+    each(s.inputs, &|x| w(set_no(s, x)) == w(get_no(s, (s.source)(x))))
 }
 
 // ---- crates/twin/specs/Demand.antt
@@ -208,16 +208,16 @@ pub fn Ends<Val: Clone + PartialEq + 'static>(
     let (old, new) = (|a| values(w, a), |a| values(&end, a));
     let at = |i| get_d(order, i, 0);
     let one_later = AtTime(&s, n + 1, &end);
-    let moved_once = each(total(&s), |a| {
-        any(length(order), |i| {
-            at(i) == a && each(length(order), |j| implies(at(j) == a, || j == i))
+    let moved_once = each(total(&s), &|a| {
+        any(length(order), &|i| {
+            at(i) == a && each(length(order), &|j| implies(at(j) == a, || j == i))
         })
     });
     let joined = Joined(&s, &end);
     let solves = Solves(&s, m, &old, &new);
     let single = asked.iter().all(|other| {
         implies(Solves(&s, m, &old, &|a| other[a as usize].clone()), || {
-            each(total(&s), |a| new(a) == other[a as usize])
+            each(total(&s), &|a| new(a) == other[a as usize])
         })
     });
     one_later && moved_once && joined && solves && single

@@ -1,6 +1,6 @@
 //! The answers of the definitions against those of the reference.
 
-use super::makers::{call_number, marks, order_for, records, sound, table_bytes, text_bytes};
+use super::makers::{call_number, order_for, records, sound, state, table_bytes, text_bytes};
 use crate::reference::table::{self, Table};
 use crate::reference::{as_c, list, order, text, verdict, Answer};
 use crate::support::calls::shown;
@@ -20,6 +20,7 @@ use crate::transcribed::printing::listed;
 use crate::transcribed::search::fronted;
 use crate::transcribed::sorter::ordering;
 use crate::transcribed::table::{self as packed, checked, shape_of};
+use crate::transcribed::text::Answer as Read;
 
 fn answer(answer: packed::Answer) -> Answer {
     Answer { number: answer.number as usize, place: answer.place as usize }
@@ -43,7 +44,7 @@ fn tables_checked() {
         assert_eq!(coded(given), as_c(expected) as u64);
         tally.count(expected.number);
     }
-    tally.finish(0..=7, rounds / 1000);
+    tally.finish(0..=7, rounds / 400);
 }
 
 #[test]
@@ -61,7 +62,7 @@ fn tables_ordered() {
         left(&mut random, &given.bytes, &front, room);
         tally.count(expected.number);
     }
-    tally.finish(0..=9, rounds / 2000);
+    tally.finish(0..=9, rounds / 400);
 }
 
 /// Is the first call a direct predecessor of the second? Stands in for a function of the reference on two call numbers:
@@ -87,7 +88,7 @@ fn pairs_of_calls() {
             tally.count(expected as usize);
         }
     }
-    tally.finish(0..=1, rounds / 100);
+    tally.finish(0..=1, rounds / 400);
 }
 
 #[test]
@@ -95,14 +96,14 @@ fn orders_judged() {
     let ((rounds, mut random), mut tally) = (fuzzing(74), Tally::new("orders judged"));
     for round in 0..rounds {
         let (table, calls) = order_for(&mut random, round);
-        let other = round % 10 == 0;
-        let bytes = if other { table_bytes(&mut random, round / 10) } else { table.packed() };
+        let other = round % 5 == 0;
+        let bytes = if other { table_bytes(&mut random, round / 5) } else { table.packed() };
         let expected = verdict::verdict(&bytes, &calls);
         let given = verdict_of(&numbers(&bytes), &numbers(&calls));
         assert_eq!(answer(given), expected, "verdict on {:?} by {:?}", calls, bytes);
         tally.count(expected.number);
     }
-    tally.finish((0..=7).chain(11..=18), rounds / 2000);
+    tally.finish((0..=7).chain(11..=18), rounds / 400);
 }
 
 #[test]
@@ -111,8 +112,8 @@ fn records_judged() {
     for round in 0..rounds {
         let (table, calls) = order_for(&mut random, round);
         let given = records(&mut random, &table, &calls);
-        let other = round % 10 == 0;
-        let bytes = if other { table_bytes(&mut random, round / 10) } else { table.packed() };
+        let other = round % 5 == 0;
+        let bytes = if other { table_bytes(&mut random, round / 5) } else { table.packed() };
         let expected = verdict::verdict_of_records(&bytes, &given);
         let t = numbers(&bytes);
         let record =
@@ -122,7 +123,7 @@ fn records_judged() {
         assert_eq!(answer(judged), expected, "verdict on {:?} by {:?}", given, bytes);
         tally.count(expected.number);
     }
-    tally.finish((0..=7).chain(11..=18), rounds / 2000);
+    tally.finish((0..=7).chain(11..=18), rounds / 400);
 }
 
 /// One call of a judged run over any bytes. Stands in for a function of the reference on bytes, which takes a call over
@@ -139,25 +140,24 @@ fn calls_taken() {
     let ((rounds, mut random), mut tally) = (fuzzing(76), Tally::new("calls taken in any state"));
     assert_eq!(fresh().done, verdict::Run::start().done);
     for round in 0..rounds {
-        let (table, calls) = order_for(&mut random, round);
-        let done = marks(&mut random, &calls);
-        let call = call_number(&mut random, &table);
-        let other = round % 10 == 0;
-        let bytes = if other { table_bytes(&mut random, round / 10) } else { table.packed() };
+        let (table, done, call) = state(&mut random);
+        let other = round % 5 == 0;
+        let bytes = if other { table_bytes(&mut random, round / 5) } else { table.packed() };
         let (next, number) = take(&bytes, verdict::Run { done }, call);
         let given = taken(&numbers(&bytes), &Run { done: done.to_vec() }, call as u64);
         assert_eq!(given.number, number as u64, "{} of {:?} after {:?}", call, bytes, done);
         assert_eq!(given.run.done, next.done, "{} of {:?} after {:?}", call, bytes, done);
         tally.count(number);
     }
-    tally.finish((0..=7).chain(11..=17), rounds / 2000);
+    tally.finish((0..=7).chain(11..=17), rounds / 400);
 }
 
 fn texts_agree(random: &mut Random, tally: &mut Tally, text: &[u8], room: usize) {
     let (expected, front) = text::read(text, room);
     let given = reading(room as u64, &numbers(text));
-    let place = (given.number as usize, given.place as usize);
-    assert_eq!(place, (expected.number, expected.place), "{} in {}", shown(text), room);
+    let answer = Read { number: given.number, place: given.place };
+    let wanted = Read { number: expected.number as u64, place: expected.place as u64 };
+    assert_eq!(answer, wanted, "{} in {}", shown(text), room);
     assert_eq!(given.bytes, numbers(&front), "{} in {}", shown(text), room);
     left(random, &given.bytes, &front, room);
     tally.count(expected.number);
@@ -172,7 +172,7 @@ fn texts_read() {
             let room = if random.percent(80) { 644 } else { random.below(200) };
             texts_agree(&mut random, &mut tally, &text, room);
         }
-        tally.finish([0].into_iter().chain(20..=34), rounds / 5000);
+        tally.finish([0].into_iter().chain(20..=34), rounds / 400);
     });
 }
 
@@ -214,7 +214,7 @@ fn texts_listed() {
             left(&mut random, &given.bytes, &front, room);
             tally.count(expected.number);
         }
-        tally.finish([0, 34], rounds / 1000);
+        tally.finish([0, 34], rounds / 400);
     });
 }
 

@@ -90,7 +90,7 @@ fn passed_exactly_when_solved() {
             tally.count(!solves as usize);
         }
     }
-    tally.finish(0..=1, rounds / 100);
+    tally.finish(0..=1, rounds / 400);
 }
 
 /// Of all values below 3 only the run's end solves the equations.
@@ -110,7 +110,7 @@ fn single_among_all_values() {
         assert!(Ends(&t, &m, &order, &w, round as u64, &asked[count as usize]), "{:?}", t);
         tally.count(0);
     }
-    tally.finish([0], rounds / 200);
+    tally.finish([0], rounds / 400);
 }
 
 /// Tables of any size: two passed orders end alike, at a solution, and no value near it is another one.
@@ -137,7 +137,7 @@ fn passed_orders_end_alike() {
         front_moved(&t, &m, &w, &calls, random.below(calls.len() + 1) as u64);
         tally.count(0);
     }
-    tally.finish([0], rounds / 20);
+    tally.finish([0], rounds / 400);
 }
 
 /// After k calls exactly the units and ports whose calls stand there have moved, each by one step.

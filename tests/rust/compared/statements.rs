@@ -30,7 +30,7 @@ fn checked_is_sound() {
         assert_eq!(number == 0, Sound(&t), "{:?}", t);
         tally.count(number as usize);
     }
-    tally.finish(0..=7, rounds / 1000);
+    tally.finish(0..=7, rounds / 400);
 }
 
 /// On a sound table the test holds exactly of the pairs that the five sentences relate.
@@ -51,7 +51,7 @@ fn precedes_is_declared() {
             }
         }
     }
-    tally.finish(0..=1, rounds / 100);
+    tally.finish(0..=1, rounds / 400);
 }
 
 /// What `order` gives keeps the rules and is passed with N; else a cycle is shown, from its lowest call, none twice.
@@ -71,7 +71,7 @@ fn order_given_or_cycle_shown() {
         }
         tally.count(given.answer.number as usize);
     }
-    tally.finish([0, 9], rounds / 200);
+    tally.finish([0, 9], rounds / 400);
 }
 
 /// On small tables every permutation is judged, and `order` is held to demand 2 in the declared words.
@@ -80,8 +80,8 @@ fn every_permutation() {
     let ((rounds, mut random), mut tally) = (fuzzing(84), Tally::new("permutations judged"));
     let mut ordered = Tally::new("small tables, each permutation judged");
     let orders: Vec<Vec<Vec<u64>>> = (0..=7).map(permutations).collect();
-    for round in 0..rounds / 30 {
-        let bytes = tiny(&mut random, if round % 10 == 0 { 7 } else { 6 }).packed();
+    for round in 0..rounds / 20 {
+        let bytes = tiny(&mut random, if round % 20 == 0 { 7 } else { 6 }).packed();
         let t = numbers(&bytes);
         let s = shape_of(&t);
         let declared = |a, b| Precedes(&s, a, b);
@@ -97,8 +97,8 @@ fn every_permutation() {
             tally.count(number as usize);
         }
     }
-    ordered.finish([0, 9], rounds / 300);
-    tally.finish([0, 13, 14, 15, 16, 17], rounds / 100);
+    ordered.finish([0, 9], rounds / 400);
+    tally.finish([0, 13, 14, 15, 16, 17], rounds / 400);
 }
 
 /// The number is 0 exactly when the list keeps the rules, and else that of the first call whose conditions fail.
@@ -119,7 +119,7 @@ fn verdict_tells() {
         assert_eq!(given.number == 0, Passes(&s, &none, &l), "{:?} by {:?}", l, t);
         tally.count(given.number as usize);
     }
-    tally.finish([0].into_iter().chain(11..=18), rounds / 2000);
+    tally.finish([0].into_iter().chain(11..=18), rounds / 400);
 }
 
 /// A text that is read gives the sound table of its lines in line order; a refusal is at the line that is said.
@@ -143,7 +143,7 @@ fn texts_by_their_lines() {
             assert!(InOrder(&fs, &shape_of(&given.bytes)), "{}", shown(&text));
             own_numbers(&fs);
         }
-        tally.finish([0].into_iter().chain(20..=34), rounds / 10_000);
+        tally.finish([0].into_iter().chain(20..=34), rounds / 400);
     });
 }
 
