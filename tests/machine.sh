@@ -1,6 +1,6 @@
 # Which machine this is, and what it must have: sourced by all that build or run x86-64 code.
-# Sets ROOT, CC, NM, AR, SIZE, OBJDUMP, OBJCOPY, QEMU, RUSTC, RUN, and NATIVE, which compiles Rust for the machine
-# itself; `need PACKAGE...` installs.
+# Sets ROOT, CC, NM, AR, SIZE, OBJDUMP, OBJCOPY, QEMU, RUSTC, RUN, and NATIVE, which compiles for the
+# machine itself; `need PACKAGE...` installs.
 
 ROOT=$(cd "$(dirname "${BASH_SOURCE[0]}")/.." && pwd)
 

@@ -1,4 +1,4 @@
-// What the definitions take from the toolchain's library: lists, and what is said of all or some numbers below a bound.
+// What the definitions take from the toolchain's library: lists, and all or some numbers below a bound.
 
 // ℕ → Bool
 pub type Test<'a> = &'a dyn Fn(u64) -> bool;

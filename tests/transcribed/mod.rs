@@ -1,17 +1,18 @@
-// The definitions that docs/BELIEVE.md lists, transcribed into Rust: one file for each crate, one function for each
-// definition, in its cases and their order. A function stands below the text that it transcribes, quoted after `//|`
-// from the file that the last `// ----` line names; tests/believe.py holds the quotes to the sources.
+// The definitions that docs/BELIEVE.md lists, transcribed into Rust: one file for each crate, one function
+// for each definition, in its cases and their order. It stands below the text that it transcribes, quoted
+// after `//|` from the file that the last `// ----` line names; tests/quotes.py holds them to the sources.
 //
-// Numbers are u64, and subtraction stops at 0. Lists are slices, tests are closures. A relation keeps its capital
-// letter and answers whether it holds. What a definition leaves unevaluated where it is not needed is a closure.
+// Numbers are u64, and subtraction stops at 0. Lists are slices, tests are closures. A relation keeps its
+// capital letter and answers whether it holds. What is evaluated only where it is needed is a closure.
 //
 // Not computed, or not of everything that is spoken of:
 // - `Determined` speaks of all pairs of answers and holds of any value, since equality is transitive.
 // - `First` speaks of all lists: only the permutations of the N calls can keep the rules, so these are asked.
-// - `OrderOrCycle` speaks of all lists: a cycle that has a call twice contains a shorter one, so the lists without
-//   repetition are asked.
-// - `Ends` speaks of all values: those that the caller gives are asked, all that there are where values are few.
-#![allow(non_snake_case, dead_code)]
+// - `OrderOrCycle` speaks of all lists: a cycle that has a call twice contains a shorter one, so the lists
+//   without repetition are asked.
+// - `Ends` speaks of all values: those that the caller gives are asked, all there are where values are few.
+#![allow(non_snake_case)]
+#![deny(dead_code)]
 
 pub mod calls;
 pub mod demands;

@@ -171,7 +171,7 @@ pub fn asked(t: &[u64]) -> u64 {
 //|   feedInput = pairInput (pairs t);
 //|   feedOutput = pairOutput (pairs t);
 //| }
-pub fn shape_of(t: &[u64]) -> Shape {
+pub fn shape_of(t: &[u64]) -> Shape<'_> {
     Shape {
         units: units(t),
         outputs: outputs(t),

@@ -1,14 +1,14 @@
 //! The answers of the definitions against those of the reference.
 
-use super::makers::{call_number, order_for, records, sound, state, table_bytes, text_bytes};
+use super::makers::{
+    call_number, chain_text, order_for, records, sound, state, table_bytes, text_bytes,
+};
 use crate::reference::table::{self, Table};
 use crate::reference::{as_c, list, order, text, verdict, Answer};
 use crate::support::calls::shown;
 use crate::support::fuzz::fuzzing;
 use crate::support::random::Random;
 use crate::support::rounds::{deep, numbers, Tally};
-use crate::support::tables::chain;
-use crate::support::texts::{bytes, plain, Names};
 use crate::transcribed::calls::precedes;
 use crate::transcribed::firmware::coded;
 use crate::transcribed::grammar::reading::reading;
@@ -65,8 +65,8 @@ fn tables_ordered() {
     tally.finish(0..=9, rounds / 400);
 }
 
-/// Is the first call a direct predecessor of the second? Stands in for a function of the reference on two call numbers:
-/// it asks the reference's lists of direct predecessors, and all at and above N is no call.
+/// Is the first call a direct predecessor of the second? Stands in for a function of the reference on two
+/// call numbers: it asks the reference's lists of direct predecessors, and all from N on is no call.
 fn comes_before(table: &Table, first: usize, second: usize) -> bool {
     second < table.calls() && table.predecessors()[second].contains(&first)
 }
@@ -126,8 +126,8 @@ fn records_judged() {
     tally.finish((0..=7).chain(11..=18), rounds / 400);
 }
 
-/// One call of a judged run over any bytes. Stands in for a function of the reference on bytes, which takes a call over
-/// a sound table: "An unsound table is refused first, by 1 to 7", with the state it had.
+/// One call of a judged run over any bytes. Stands in for a function of the reference on bytes, which takes
+/// a call over a sound table: "An unsound table is refused first, by 1 to 7", with the state it had.
 fn take(bytes: &[u8], run: verdict::Run, call: usize) -> (verdict::Run, usize) {
     match table::sound(bytes) {
         Ok(table) => run.take(&table, call),
@@ -201,10 +201,10 @@ fn texts_listed() {
     deep(|| {
         let ((rounds, mut random), mut tally) = (fuzzing(79), Tally::new("texts listed"));
         for round in 0..rounds / 2 {
-            let table = chain(random.between(1, 32), round % 200 == 0);
-            let text = match round % 100 {
-                0 => bytes(&plain(&table, &Names::longest(&table))),
-                _ => text_bytes(&mut random, round),
+            let text = if round % 100 == 99 {
+                chain_text(random.between(1, 32), round % 200 == 99)
+            } else {
+                text_bytes(&mut random, round)
             };
             let room = if random.percent(80) { 10_000 } else { random.below(400) };
             let (expected, front) = list::list(&text, room);

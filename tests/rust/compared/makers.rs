@@ -9,7 +9,7 @@ use crate::support::fuzz;
 use crate::support::orders::near_miss;
 use crate::support::random::Random;
 use crate::support::several::{many_faults, one_more, one_more_feed};
-use crate::support::tables::{self, acyclic, any, counts, Counts, GREATEST};
+use crate::support::tables::{self, acyclic, any, chain, counts, Counts, GREATEST};
 use crate::support::texts::{bytes, mixed, plain, Names};
 
 /// A sound table: a small one, one of any size, one of the greatest.
@@ -148,7 +148,7 @@ fn marks(random: &mut Random) -> [bool; 224] {
     [(); 224].map(|_| random.percent(share))
 }
 
-/// A table, which calls are done, and a call: any, or a call's turn in a passing order but for one of its rules.
+/// A table, which calls are done, and a call: any, or its turn in a passing order but for one of its rules.
 pub fn state(random: &mut Random) -> (Table, [bool; 224], usize) {
     let (table, calls) = passing(random);
     let rule = some_rule(random, &table);
@@ -178,7 +178,13 @@ fn greatest_text(random: &mut Random, round: usize) -> Vec<u8> {
     }
 }
 
-/// A text: a table written out, faults of each kind in turn, one line too many, any bytes.
+/// The text of a chain or a ring through all calls of so many units, under the longest names.
+pub fn chain_text(units: usize, closed: bool) -> Vec<u8> {
+    let table = chain(units, closed);
+    bytes(&plain(&table, &Names::longest(&table)))
+}
+
+/// A text: a table written out, faults of each kind in turn, any bytes, and now and then one of the greatest.
 pub fn text_bytes(random: &mut Random, round: usize) -> Vec<u8> {
     if round % 40 == 0 {
         return greatest_text(random, round);

@@ -19,7 +19,7 @@ fn mixed(seed: u64, number: u64, state: i64, inputs: &[i64]) -> i64 {
     }) as i64
 }
 
-/// Rules that show whatever they are given.
+/// Rules that show all they see.
 fn mixing(seed: u64) -> Rules<i64> {
     Rules {
         step_rule: Box::new(move |u, state, inputs| mixed(seed, u, state, inputs)),
@@ -75,7 +75,7 @@ fn any_order(random: &mut Random, bytes: &[u8]) -> Vec<u64> {
     order.into_iter().map(|call| call as u64).collect()
 }
 
-/// A list of all calls passes exactly when its run solves the equations, for rules that show whatever they are given.
+/// A list of all calls passes exactly when its run solves the equations, for rules that show all they see.
 #[test]
 fn passed_exactly_when_solved() {
     let ((rounds, mut random), mut tally) = (fuzzing(91), Tally::new("permutations run"));

@@ -1,4 +1,4 @@
-//! The statements that are proved of the definitions, tried on inputs: the check, precedence, demand 2, the text.
+//! The statements that are proved of the definitions, tried: the check, precedence, demand 2, the text.
 
 use super::makers::{call_number, order_for, sound, table_bytes, text_bytes, tiny};
 use crate::reference::verdict::verdict;
@@ -54,7 +54,7 @@ fn precedes_is_declared() {
     tally.finish(0..=1, rounds / 400);
 }
 
-/// What `order` gives keeps the rules and is passed with N; else a cycle is shown, from its lowest call, none twice.
+/// What `order` gives keeps the rules and is passed with N; else a cycle is shown, lowest call first, none twice.
 #[test]
 fn order_given_or_cycle_shown() {
     let ((rounds, mut random), mut tally) =
@@ -101,13 +101,14 @@ fn every_permutation() {
     tally.finish([0, 13, 14, 15, 16, 17], rounds / 400);
 }
 
-/// The number is 0 exactly when the list keeps the rules, and else that of the first call whose conditions fail.
+/// The number is 0 exactly when the list keeps the rules, else that of the first call whose conditions fail.
 #[test]
 fn verdict_tells() {
     let ((rounds, mut random), mut tally) = (fuzzing(85), Tally::new("verdicts told"));
     for round in 0..rounds {
         let (table, calls) = order_for(&mut random, round);
         let (t, l) = (numbers(&table.packed()), numbers(&calls));
+        // what is done at a place is asked anew at each, so that long lists take long
         if l.len() > 60 {
             continue;
         }
@@ -147,7 +148,7 @@ fn texts_by_their_lines() {
     });
 }
 
-/// Each line that declares has its own place as its number, and each `join` line gives the input the output it names.
+/// Each line that declares has its place as its number; each `join` line gives the input the output it names.
 fn own_numbers(fs: &[Vec<Vec<u64>>]) {
     for (u, f) in lines_of(fs, &ascii("unit")).iter().enumerate() {
         assert_eq!(unit_number(fs, &word(f, 1)), u as u64);
