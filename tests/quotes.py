@@ -40,7 +40,7 @@ def faults(quoted, places):
     """What is quoted and not in its file, listed and not quoted, or above an item of another name."""
     texts = {path: {d.whole() for d in definitions(lines)} for path, lines in quoted.items()}
     for path, found in texts.items():
-        for _, text in found - {d.whole() for d in defined(path)}:
+        for _, text in found - {d.whole() for d in (defined(path) if path.exists() else ())}:
             yield f"{path.relative_to(ROOT)} has no {text}"
     for path, d in (listed for row in rows() for listed in row.listed):
         if d.whole() not in texts.get(path, ()):
