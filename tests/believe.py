@@ -1,62 +1,67 @@
 #!/usr/bin/env python3
-"""Holds docs/BELIEVE.md to the sources: each file is there, its lines are counted right, the sum is under 640."""
+"""Holds docs/BELIEVE.md to the sources: each definition is there, its lines are counted right, their sum is what the
+page says; and each word of a listed definition, of a named theorem and of a contract is listed itself."""
 import re
 import sys
-from pathlib import Path
 
-ROOT = Path(__file__).resolve().parent.parent
+sys.dont_write_bytecode = True
+from sources import CRATES, PAGE, brought_in, contracts, defined, fold, rows, words  # noqa: E402
 
 
-def definition_lines(path):
-    """The lines of a file that are no import, no comment and not blank."""
-    lines, importing = [], False
-    for line in path.read_text().splitlines():
-        if importing or line.startswith("use "):
-            importing = "}" not in line and ("{" in line or importing)
+def counted():
+    """What is amiss with the counts: of a row, of a name that is not there, of the sum."""
+    total = 0
+    for row in rows():
+        heads = {(path, head) for path, d in row.listed for head in d.heads}
+        lines = sum(len(d.lines) for _, d in row.listed) + len(heads)
+        total += lines
+        if lines != row.count:
+            yield f"{row.cell}: {lines} lines, and the page says {row.count}"
+        for name in set(row.named) - {d.name for _, d in row.listed}:
+            yield f"{row.cell}: no {name}"
+    said = sum(map(int, re.findall(r"^\| (?:the base|request \d+) \| (\d+) \|", PAGE, re.M)))
+    if said != total:
+        yield f"{total} lines of definitions, and the page says {said}"
+
+
+def theorems():
+    """For each theorem that the page names: its file and its statement, or nothing where no file has it."""
+    public = {}
+    for path in CRATES.glob("*/specs/*.antt"):
+        public |= {d.name: (path, d) for d in defined(path) if d.lines[0].strip().startswith("pub ")}
+    for name in sorted(set(re.findall(r"`([a-z]+(?:-\w+)+)`", PAGE))):
+        path, theorem = public.get(name, (None, None))
+        yield path, name, theorem and theorem.statement()
+
+
+def statements():
+    """What the page speaks of: listed definitions, named theorems, contracts of the files named above its tables."""
+    for row in rows():
+        yield from ((path, d.name, fold([*d.heads, *d.lines])) for path, d in row.listed)
+    yield from theorems()
+    for name in re.findall(r"`(\w+/src/\w+\.rt)`", PAGE.partition("\n## ")[0]):
+        yield from ((CRATES / name, "a contract", text) for text in contracts(CRATES / name))
+
+
+def unlisted():
+    """Words that the page's statements use and its rows do not have."""
+    known = {(path, d.name) for row in rows() for path, d in row.listed}
+    for path, name, text in statements():
+        if path is None:
+            yield f"the page names {name}, and no file has it"
             continue
-        if line.strip() and not line.strip().startswith("--"):
-            lines.append(line)
-    return lines
-
-
-def of_names(lines, names):
-    """The lines of the named definitions: a signature, its clauses, and what is indented below them."""
-    kept, on = 0, False
-    for line in lines:
-        if not line.startswith((" ", "]", ")")):
-            words = re.sub(r"^(unfoldable |abbrev )?(pub )?(record |data )?", "", line).split()
-            on = bool(words) and words[0] in names
-        kept += on
-    return kept
-
-
-def row_count(cell):
-    paths, _, names = cell.partition(":")
-    files, folder, count = re.findall(r"`([^`]+\.antt)`", paths), None, 0
-    for name in files:
-        path = ROOT / "crates" / name if "/" in name else folder / name
-        folder = path.parent
-        lines = definition_lines(path)
-        named = re.findall(r"`([^`]+)`", names)
-        count += of_names(lines, named) if named else len(lines)
-    return count
+        own = [d.name for d in defined(path) if path.suffix == ".antt" or d.name[0].isupper()]
+        names = {**{word: (path, word) for word in own}, **brought_in(path)}
+        for there, word in sorted({names[word] for word in words(text) - {name} if word in names} - known):
+            where, there = path.relative_to(CRATES), there.relative_to(CRATES)
+            yield f"{where}: {name} uses {word} of {there}, which is not listed"
 
 
 def main():
-    total, wrong = 0, 0
-    for line in (ROOT / "docs/BELIEVE.md").read_text().splitlines():
-        row = re.match(r"\| (`.*?\.antt`.*?) \| (\d+) \|", line)
-        if row:
-            counted = row_count(row[1])
-            total += counted
-            if counted != int(row[2]):
-                wrong += 1
-                print(f"{row[1]}: {counted} lines, and the page says {row[2]}")
-    if not 0 < total < 640:
-        wrong += 1
-    print(f"{total} lines of definitions")
-    print(f"{1 if wrong == 0 else 0} passed, {wrong} failed")
-    sys.exit(wrong != 0)
+    failed = [*counted(), *unlisted()]
+    print("\n".join(failed) if failed else f"{sum(row.count for row in rows())} lines of definitions")
+    print(f"{0 if failed else 1} passed, {len(failed)} failed")
+    sys.exit(bool(failed))
 
 
 main()

@@ -1,5 +1,6 @@
 # Which machine this is, and what it must have: sourced by all that build or run x86-64 code.
-# Sets ROOT, CC, NM, AR, SIZE, OBJDUMP, OBJCOPY, QEMU, RUSTC, RUN; `need PACKAGE...` installs.
+# Sets ROOT, CC, NM, AR, SIZE, OBJDUMP, OBJCOPY, QEMU, RUSTC, RUN, and NATIVE, which compiles for the
+# machine itself; `need PACKAGE...` installs.
 
 ROOT=$(cd "$(dirname "${BASH_SOURCE[0]}")/.." && pwd)
 
@@ -26,7 +27,8 @@ case $(uname -m) in
 x86_64)
     need gcc libc6-dev binutils qemu-user python3
     command -v rustc >/dev/null || need rustc
-    RUSTC=(rustc --edition 2021)
+    NATIVE=(rustc --edition 2021)
+    RUSTC=("${NATIVE[@]}")
     RUN=()
     ;;
 aarch64)
@@ -34,8 +36,8 @@ aarch64)
     need gcc libc6-dev gcc-x86-64-linux-gnu libc6-dev-amd64-cross binutils-x86-64-linux-gnu \
         qemu-user python3 rustc libstd-rust-dev:amd64
     # The distribution's own rustc has the x86-64 library; another may come first in PATH.
-    RUSTC=("$(dpkg -L rustc | grep '/bin/rustc$')" --edition 2021
-        --target x86_64-unknown-linux-gnu -C linker="$CC")
+    NATIVE=("$(dpkg -L rustc | grep '/bin/rustc$')" --edition 2021)
+    RUSTC=("${NATIVE[@]}" --target x86_64-unknown-linux-gnu -C linker="$CC")
     RUN=("$QEMU")
     ;;
 *)

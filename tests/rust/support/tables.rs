@@ -119,14 +119,19 @@ pub fn sound(random: &mut Random) -> Table {
     }
 }
 
+/// Counts of a few units and ports.
+pub fn few(random: &mut Random) -> Counts {
+    let (units, outputs) = (random.between(1, 4), random.below(6));
+    let inputs = if outputs == 0 { 0 } else { random.below(6) };
+    Counts { units, outputs, inputs, feeds: random.below(5) }
+}
+
 /// A sound table, in most cases one of a few units.
 pub fn small(random: &mut Random) -> Table {
     if random.percent(10) {
         return sound(random);
     }
-    let (units, outputs) = (random.between(1, 4), random.below(6));
-    let inputs = if outputs == 0 { 0 } else { random.below(6) };
-    let counts = Counts { units, outputs, inputs, feeds: random.below(5) };
+    let counts = few(random);
     if random.percent(50) {
         any(random, counts)
     } else {

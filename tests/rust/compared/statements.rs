@@ -1,0 +1,166 @@
+//! The statements that are proved of the definitions, tried: the check, precedence, demand 2, the text.
+
+use super::makers::{call_number, order_for, sound, table_bytes, text_bytes, tiny};
+use crate::reference::verdict::verdict;
+use crate::support::calls::shown;
+use crate::support::fuzz::fuzzing;
+use crate::support::rounds::{deep, numbers, Tally};
+use crate::transcribed::calls::{precedes, Precedes};
+use crate::transcribed::demands::Given;
+use crate::transcribed::grammar::opening::lines_of;
+use crate::transcribed::grammar::reading::reading;
+use crate::transcribed::grammar::rows::{ascii, rows, word};
+use crate::transcribed::judging::{answer, verdict_from, verdict_of, Passes, Tells};
+use crate::transcribed::library::{permutations, take};
+use crate::transcribed::orders::{Keeps, Shown};
+use crate::transcribed::reading::{
+    input_number, numbered, output_number, source_number, unit_number, InOrder, Lined,
+};
+use crate::transcribed::search::none;
+use crate::transcribed::sorter::{ordering, OrderOrCycle};
+use crate::transcribed::table::{checked, shape_of, total, Sound};
+
+/// The check answers 0 exactly when the table is sound.
+#[test]
+fn checked_is_sound() {
+    let ((rounds, mut random), mut tally) = (fuzzing(81), Tally::new("tables sound or not"));
+    for round in 0..rounds {
+        let t = numbers(&table_bytes(&mut random, round));
+        let number = checked(&t).number;
+        assert_eq!(number == 0, Sound(&t), "{:?}", t);
+        tally.count(number as usize);
+    }
+    tally.finish(0..=7, rounds / 400);
+}
+
+/// On a sound table the test holds exactly of the pairs that the five sentences relate.
+#[test]
+fn precedes_is_declared() {
+    let ((rounds, mut random), mut tally) =
+        (fuzzing(82), Tally::new("pairs by the five sentences"));
+    for _ in 0..rounds / 20 {
+        let table = sound(&mut random);
+        let t = numbers(&table.packed());
+        let s = shape_of(&t);
+        for _ in 0..20 {
+            let a = call_number(&mut random, &table) as u64;
+            for b in 0..total(&s) + 2 {
+                let given = precedes(&s, a, b);
+                assert_eq!(given, Precedes(&s, a, b), "{} before {} in {:?}", a, b, t);
+                tally.count(given as usize);
+            }
+        }
+    }
+    tally.finish(0..=1, rounds / 400);
+}
+
+/// What `order` gives keeps the rules and is passed with N; else a cycle is shown, lowest call first, none twice.
+#[test]
+fn order_given_or_cycle_shown() {
+    let ((rounds, mut random), mut tally) =
+        (fuzzing(83), Tally::new("orders given or cycles shown"));
+    for _ in 0..rounds / 10 {
+        let t = numbers(&sound(&mut random).packed());
+        let (s, given) = (shape_of(&t), ordering(&t, 224));
+        let declared = |a, b| Precedes(&s, a, b);
+        if Given(&t, 224) {
+            assert_eq!(verdict_of(&t, &given.bytes), answer(0, total(&s)), "{:?}", t);
+            assert!(Keeps(total(&s), &declared, &given.bytes), "{:?}", t);
+        } else {
+            assert!(Shown(total(&s), &declared, &given.bytes), "{:?}", t);
+        }
+        tally.count(given.answer.number as usize);
+    }
+    tally.finish([0, 9], rounds / 400);
+}
+
+/// On small tables every permutation is judged, and `order` is held to demand 2 in the declared words.
+#[test]
+fn every_permutation() {
+    let ((rounds, mut random), mut tally) = (fuzzing(84), Tally::new("permutations judged"));
+    let mut ordered = Tally::new("small tables, each permutation judged");
+    let orders: Vec<Vec<Vec<u64>>> = (0..=7).map(permutations).collect();
+    for round in 0..rounds / 20 {
+        let bytes = tiny(&mut random, if round % 20 == 0 { 7 } else { 6 }).packed();
+        let t = numbers(&bytes);
+        let s = shape_of(&t);
+        let declared = |a, b| Precedes(&s, a, b);
+        let given = ordering(&t, 7);
+        assert!(OrderOrCycle(&t, given.answer, take(given.answer.place, &given.bytes)), "{:?}", t);
+        ordered.count(given.answer.number as usize);
+        for order in &orders[total(&s) as usize] {
+            let number = verdict_of(&t, order).number;
+            let calls: Vec<u8> = order.iter().map(|&call| call as u8).collect();
+            assert_eq!(number as usize, verdict(&bytes, &calls).number, "{:?} by {:?}", calls, t);
+            assert_eq!(number == 0, Keeps(total(&s), &declared, order), "{:?} by {:?}", order, t);
+            assert_eq!(number == 0, Passes(&s, &none, order), "{:?} by {:?}", order, t);
+            tally.count(number as usize);
+        }
+    }
+    ordered.finish([0, 9], rounds / 400);
+    tally.finish([0, 13, 14, 15, 16, 17], rounds / 400);
+}
+
+/// The number is 0 exactly when the list keeps the rules, else that of the first call whose conditions fail.
+#[test]
+fn verdict_tells() {
+    let ((rounds, mut random), mut tally) = (fuzzing(85), Tally::new("verdicts told"));
+    for round in 0..rounds {
+        let (table, calls) = order_for(&mut random, round);
+        let (t, l) = (numbers(&table.packed()), numbers(&calls));
+        // what is done at a place is asked anew at each, so that long lists take long
+        if l.len() > 60 {
+            continue;
+        }
+        let s = shape_of(&t);
+        let given = verdict_from(&s, &none, &l, 0);
+        let declared = |a, b| Precedes(&s, a, b);
+        assert!(Tells(&s, &none, &l, 0, given), "{:?} by {:?}", l, t);
+        assert_eq!(given.number == 0, Keeps(total(&s), &declared, &l), "{:?} by {:?}", l, t);
+        assert_eq!(given.number == 0, Passes(&s, &none, &l), "{:?} by {:?}", l, t);
+        tally.count(given.number as usize);
+    }
+    tally.finish([0].into_iter().chain(11..=18), rounds / 400);
+}
+
+/// A text that is read gives the sound table of its lines in line order; a refusal is at the line that is said.
+#[test]
+fn texts_by_their_lines() {
+    deep(|| {
+        let ((rounds, mut random), mut tally) = (fuzzing(86), Tally::new("texts by their lines"));
+        for round in 0..rounds / 2 {
+            let text = text_bytes(&mut random, round);
+            let t = numbers(&text);
+            let room = if random.percent(90) { 644 } else { random.below(100) as u64 };
+            let given = reading(room, &t);
+            tally.count(given.number as usize);
+            if given.number != 0 {
+                assert!(Lined(&t, &given), "{}", shown(&text));
+                continue;
+            }
+            let fs = rows(&t);
+            assert!(Sound(&given.bytes), "{}", shown(&text));
+            assert_eq!(given.bytes, numbered(&fs), "{}", shown(&text));
+            assert!(InOrder(&fs, &shape_of(&given.bytes)), "{}", shown(&text));
+            own_numbers(&fs);
+        }
+        tally.finish([0].into_iter().chain(20..=34), rounds / 400);
+    });
+}
+
+/// Each line that declares has its place as its number; each `join` line gives the input the output it names.
+fn own_numbers(fs: &[Vec<Vec<u64>>]) {
+    for (u, f) in lines_of(fs, &ascii("unit")).iter().enumerate() {
+        assert_eq!(unit_number(fs, &word(f, 1)), u as u64);
+    }
+    for (y, f) in lines_of(fs, &ascii("out")).iter().enumerate() {
+        assert_eq!(output_number(fs, &word(f, 1), &word(f, 2)), y as u64);
+    }
+    for (x, f) in lines_of(fs, &ascii("in")).iter().enumerate() {
+        assert_eq!(input_number(fs, &word(f, 1), &word(f, 2)), x as u64);
+    }
+    for f in lines_of(fs, &ascii("join")) {
+        let output = output_number(fs, &word(&f, 1), &word(&f, 2));
+        assert_eq!(source_number(fs, &word(&f, 3), &word(&f, 4)), output);
+    }
+}
