@@ -25,7 +25,7 @@ mapfile -t ARCHIVE_NAMES < <(listed | awk '{ print $1 }' | sort -u)
 # The plain C versions: libplain.a under their own names, libnamed.a under the library's.
 build_plain() {
     local source name rename=()
-    for name in check order verdict read list line names pack packed_length; do
+    for name in check order verdict verdict_of_records read list line names pack packed_length; do
         rename+=(--redefine-sym "plain_$name=oorlichday_$name")
     done
     mkdir -p "$ROOT/target/tests/plain"
@@ -46,7 +46,7 @@ case $KIND in
 proved) ARCHIVES=$ROOT/target/staticlib ;;
 plain)
     ARCHIVES=$ROOT/target/tests/plain
-    EXPORTS=(check order verdict read list)
+    EXPORTS=(check order verdict verdict_of_records read list)
     archive_of() { echo named; }
     build_plain
     ;;

@@ -10,10 +10,16 @@ struct plain_reading {
     size_t place;
 };
 
+struct plain_record {
+    uint8_t kind, number;
+};
+
 uint32_t plain_check(const uint8_t *table, size_t table_len);
 uint32_t plain_order(const uint8_t *table, size_t table_len, uint8_t *order, size_t order_len);
 uint32_t plain_verdict(const uint8_t *table, size_t table_len,
                        const uint8_t *order, size_t order_len);
+uint32_t plain_verdict_of_records(const uint8_t *table, size_t table_len,
+                                  const struct plain_record *records, size_t count);
 struct plain_reading plain_read(const uint8_t *text, size_t text_len,
                                 uint8_t *table, size_t table_len);
 struct plain_reading plain_list(const uint8_t *text, size_t text_len,

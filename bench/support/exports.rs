@@ -9,6 +9,7 @@ pub struct Reading {
 
 pub type Check = unsafe extern "C" fn(*const u8, usize) -> u32;
 pub type Order = unsafe extern "C" fn(*const u8, usize, *mut u8, usize) -> u32;
+/// The records of the verdict on records are two bytes each, and go as bytes.
 pub type Verdict = unsafe extern "C" fn(*const u8, usize, *const u8, usize) -> u32;
 pub type Read = unsafe extern "C" fn(*const u8, usize, *mut u8, usize) -> Reading;
 
@@ -25,6 +26,12 @@ extern "C" {
         table_len: usize,
         order: *const u8,
         order_len: usize,
+    ) -> u32;
+    pub fn oorlichday_verdict_of_records(
+        table: *const u8,
+        table_len: usize,
+        records: *const u8,
+        count: usize,
     ) -> u32;
     pub fn oorlichday_read(
         text: *const u8,
@@ -46,6 +53,12 @@ extern "C" {
         table_len: usize,
         order: *const u8,
         order_len: usize,
+    ) -> u32;
+    pub fn plain_verdict_of_records(
+        table: *const u8,
+        table_len: usize,
+        records: *const u8,
+        count: usize,
     ) -> u32;
     pub fn plain_read(
         text: *const u8,

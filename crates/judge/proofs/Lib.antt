@@ -3,4 +3,5 @@ pub mod Refusals
 pub mod Scanned
 pub mod Turns
 pub mod Recorded
+pub mod Carried
 pub mod Walked

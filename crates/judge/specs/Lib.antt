@@ -2,5 +2,4 @@ pub mod Marks
 pub mod Scans
 pub mod Taken
 pub mod Records
-pub mod Carried
 pub mod Determined
