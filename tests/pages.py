@@ -34,7 +34,8 @@ def main():
     if [int(row) for row in rows] != NUMBERS:
         failed.append(f"INTEGRATE.md: the numbers' lines are {rows}")
     headers = "".join(path.read_text(encoding="utf-8") for path in sorted((ROOT / "include").glob("*.h")))
-    named = [int(number) for number in re.findall(r"^    OORLICHDAY_\w+ = (\d+)", headers, re.M)]
+    enums = "".join(re.findall(r"^enum oorlichday_\w*number \{(.*?)^\}", headers, re.M | re.S))
+    named = [int(number) for number in re.findall(r"^    OORLICHDAY_\w+ = (\d+)", enums, re.M)]
     if named != NUMBERS:
         failed.append(f"include: the numbers named are {named}")
     print("\n".join(failed) if failed else f"{len(PAGES)} pages")
