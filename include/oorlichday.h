@@ -1,4 +1,4 @@
-/* The order of calls for one step of joined models: check a table, order it, judge an order. */
+/* The order of calls for one step of joined models: check a table, order it, judge an order or a schedule. */
 #ifndef OORLICHDAY_H
 #define OORLICHDAY_H
 
@@ -8,6 +8,13 @@
 #ifdef __cplusplus
 extern "C" {
 #endif
+
+/*
+ * Counts the changes of what the two headers declare: one more when a call, a struct, a size or a
+ * number comes, goes or changes its meaning. Both headers give it, so that a compiler objects to
+ * headers of two versions in one file.
+ */
+#define OORLICHDAY_VERSION 1
 
 /* Greatest sizes in bytes of a packed table and of an order. */
 #define OORLICHDAY_TABLE_MAX 644u
@@ -40,8 +47,9 @@ enum oorlichday_number {
  * Every answer is 256 times its number plus its place.
  *
  * What the caller owes: each pointer is not null and points at as many bytes as the length beside
- * it says, for the time of the call (a length of 0 may come with any non-null pointer). The bytes
- * that are written to overlap no other buffer of the same call; those only read may overlap.
+ * it says, or as many records as the count, for the time of the call (a length of 0 may come with
+ * any non-null pointer). The bytes that are written to overlap no other buffer of the same call;
+ * those only read may overlap.
  * The functions keep no state, allocate nothing and may be called from any thread.
  */
 
@@ -60,6 +68,26 @@ uint32_t oorlichday_order(const uint8_t *table, size_t table_len, uint8_t *order
 /* Does the order keep the rules? 0 with N; or 1 to 7; or number and place of its first fault. */
 uint32_t oorlichday_verdict(const uint8_t *table, size_t table_len,
                             const uint8_t *order, size_t order_len);
+
+/* The kinds of a record. */
+enum oorlichday_kind {
+    OORLICHDAY_STEP = 0,
+    OORLICHDAY_GET = 1,
+    OORLICHDAY_SET = 2
+};
+
+/* A call of the firmware's own schedule: its kind, and its unit, output or input. Two bytes. */
+struct oorlichday_record {
+    uint8_t kind;
+    uint8_t number;
+};
+
+/*
+ * The same verdict on a schedule of `count` records. A kind above 2, or a number not below the
+ * table's count of its kind, is 11. A place counts records.
+ */
+uint32_t oorlichday_verdict_of_records(const uint8_t *table, size_t table_len,
+                                       const struct oorlichday_record *records, size_t count);
 
 #ifdef __cplusplus
 }

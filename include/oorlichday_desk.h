@@ -1,13 +1,17 @@
-/* The text table on a desk: read it into a packed table, or list the order of its calls. */
+/* On a desk: read a text table or list the order of its calls; judge call by call; ask what precedes what. */
 #ifndef OORLICHDAY_DESK_H
 #define OORLICHDAY_DESK_H
 
+#include <stdbool.h>
 #include <stddef.h>
 #include <stdint.h>
 
 #ifdef __cplusplus
 extern "C" {
 #endif
+
+/* What it counts is said in oorlichday.h, and it is the same there. */
+#define OORLICHDAY_VERSION 1
 
 /* Greatest sizes in bytes of a text that is read, and of a listing. */
 #define OORLICHDAY_TEXT_MAX 24576u
@@ -50,6 +54,31 @@ struct oorlichday_reading oorlichday_read(const uint8_t *text, size_t text_len,
  */
 struct oorlichday_reading oorlichday_list(const uint8_t *text, size_t text_len,
                                           uint8_t *out, size_t out_len);
+
+/* A judged run: which call numbers are done. Any marks are taken, each of them true or false. */
+struct oorlichday_run {
+    bool done[224];
+};
+
+/* The run after a call, with the number that the call is answered. */
+struct oorlichday_taken {
+    struct oorlichday_run run;
+    uint8_t number;
+};
+
+/*
+ * One call of a judged run, by its number, however great: 0 and the run with the call done; or 1 to
+ * 7 for an unsound table, then 11 to 17, with the run as it was. A run in which nothing is done is
+ * all zeros.
+ */
+struct oorlichday_taken oorlichday_take(const uint8_t *table, size_t table_len,
+                                        struct oorlichday_run run, size_t call);
+
+/*
+ * Is the first call a direct predecessor of the second? On a sound table by the five sentences of
+ * precedence, and false where one of the two is no call. On an unsound table the answer says nothing.
+ */
+bool oorlichday_precedes(const uint8_t *table, size_t table_len, size_t first, size_t second);
 
 #ifdef __cplusplus
 }

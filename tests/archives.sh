@@ -1,6 +1,6 @@
 # Where the archives under test are, and what they export: sourced after machine.sh.
-# Sets KIND (proved, or plain for bench/plain's C versions), ARCHIVES (a folder), BUILD,
-# and the lists EXPORTS and ARCHIVE_NAMES.
+# Sets KIND (proved, or plain for bench/plain's C versions), ARCHIVES (a folder), BUILD, the lists
+# EXPORTS and ARCHIVE_NAMES, and what links all archives from C and from Rust: C_LINKS, RUST_LINKS.
 
 KIND=${1:-proved}
 BUILD=$ROOT/target/tests/$KIND
@@ -25,7 +25,8 @@ mapfile -t ARCHIVE_NAMES < <(listed | awk '{ print $1 }' | sort -u)
 # The plain C versions: libplain.a under their own names, libnamed.a under the library's.
 build_plain() {
     local source name rename=()
-    for name in check order verdict read list line names pack packed_length; do
+    for name in check order verdict verdict_of_records read list take precedes \
+        line names pack packed_length; do
         rename+=(--redefine-sym "plain_$name=oorlichday_$name")
     done
     mkdir -p "$ROOT/target/tests/plain"
@@ -46,7 +47,7 @@ case $KIND in
 proved) ARCHIVES=$ROOT/target/staticlib ;;
 plain)
     ARCHIVES=$ROOT/target/tests/plain
-    EXPORTS=(check order verdict read list)
+    ARCHIVE_NAMES=(named)
     archive_of() { echo named; }
     build_plain
     ;;
@@ -55,3 +56,8 @@ plain)
     exit 2
     ;;
 esac
+
+C_LINKS=(-L "$ARCHIVES") RUST_LINKS=(-L "$ARCHIVES")
+for archive in "${ARCHIVE_NAMES[@]}"; do
+    C_LINKS+=(-l "$archive") RUST_LINKS+=(-l "static=$archive")
+done

@@ -124,7 +124,8 @@ def main():
     if [int(row) for row in rows] != NUMBERS:
         failed.append(f"INTEGRATE.md: the numbers' lines are {rows}")
     headers = "".join(read(path) for path in sorted((ROOT / "include").glob("*.h")))
-    named = [int(number) for number in re.findall(r"^    OORLICHDAY_\w+ = (\d+)", headers, re.M)]
+    enums = "".join(re.findall(r"^enum oorlichday_\w*number \{(.*?)^\}", headers, re.M | re.S))
+    named = [int(number) for number in re.findall(r"^    OORLICHDAY_\w+ = (\d+)", enums, re.M)]
     if named != NUMBERS:
         failed.append(f"include: the numbers named are {named}")
     failed += [f"PROMISES.md: {edit} is named there and is not in the tree, or the other way round" for edit in unpromised()]

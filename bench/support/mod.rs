@@ -5,5 +5,6 @@ pub mod count;
 pub mod exports;
 pub mod families;
 pub mod hunt;
+pub mod judged;
 pub mod measured;
 pub mod rows;

@@ -65,4 +65,22 @@ impl Table {
         }
         before
     }
+
+    /// Is the first call a direct predecessor of the second? One case for each of the five sentences.
+    pub fn precedes(&self, first: usize, second: usize) -> bool {
+        match (self.call(first), self.call(second)) {
+            (Some(Call::Step(unit)), Some(Call::Get(output))) => self.output_owner[output] == unit,
+            (Some(Call::Get(output)), Some(Call::Set(input))) => self.source[input] == output,
+            (Some(Call::Set(input)), Some(Call::Get(output))) => {
+                self.feeds.contains(&(input, output))
+            }
+            (Some(Call::Set(input)), Some(Call::Step(unit))) => {
+                self.reactive[input] && self.input_owner[input] == unit
+            }
+            (Some(Call::Step(unit)), Some(Call::Set(input))) => {
+                !self.reactive[input] && self.input_owner[input] == unit
+            }
+            _ => false,
+        }
+    }
 }

@@ -71,6 +71,14 @@ impl Run {
     }
 }
 
+/// One call of a judged run on any state: an unsound table is refused first, by 1 to 7.
+pub fn take(bytes: &[u8], run: Run, call: usize) -> (Run, usize) {
+    match table::sound(bytes) {
+        Ok(table) => run.take(&table, call),
+        Err(number) => (run, number),
+    }
+}
+
 /// The verdict on a list of call numbers, none of them cut to a byte.
 fn judge(table: &Table, calls: impl Iterator<Item = usize>) -> Answer {
     let mut run = Run::start();

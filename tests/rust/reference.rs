@@ -5,13 +5,13 @@
 mod reference;
 mod support;
 
-use reference::calls::Call;
 use reference::list::listing;
-use reference::verdict::{verdict, verdict_of_records};
+use reference::verdict::{take, verdict, verdict_of_records, Run};
 use reference::{order::order, table::check, text::read, Answer};
 use support::orders::near_miss;
 use support::random::Random;
-use support::tables::{acyclic, counts};
+use support::records::records_of;
+use support::tables::{self, acyclic, counts};
 
 const A: &[u8] = &[2, 2, 2, 0, 0, 1, 0, 1, 0, 1, 1, 0];
 const C: &[u8] = &[2, 2, 2, 0, 0, 1, 0, 1, 0, 0, 1, 0];
@@ -118,14 +118,38 @@ fn records_and_numbers_agree() {
         let counts = counts(&mut random);
         let (table, calls) = acyclic(&mut random, counts);
         let calls = near_miss(&mut random, &table, &calls, round % 3);
-        let record = |&call: &u8| match table.call(call as usize) {
-            Some(Call::Step(unit)) => (0, unit as u8),
-            Some(Call::Get(output)) => (1, output as u8),
-            Some(Call::Set(input)) => (2, input as u8),
-            None => (3, 0),
-        };
-        let records: Vec<(u8, u8)> = calls.iter().map(record).collect();
-        let bytes = table.packed();
+        let (bytes, records) = (table.packed(), records_of(&table, &calls));
         assert_eq!(verdict_of_records(&bytes, &records), verdict(&bytes, &calls));
+    }
+}
+
+/// The readings of a judged run: states that no order leads to, marks above N, wide numbers.
+#[test]
+fn judged_runs() {
+    let run = |calls: &[usize]| {
+        let mut run = Run::start();
+        calls.iter().for_each(|&call| run.done[call] = true);
+        run
+    };
+    assert_eq!(take(A, run(&[]), 0), (run(&[0]), 0));
+    assert_eq!(take(A, run(&[4]), 0), (run(&[4]), 13));
+    assert_eq!(take(A, run(&[6, 223]), 6), (run(&[6, 223]), 11));
+    assert_eq!(take(A, run(&[6, 223]), 0), (run(&[0, 6, 223]), 0));
+    assert_eq!(take(A, run(&[]), 256), (run(&[]), 11));
+    assert_eq!(take(A, run(&[]), usize::MAX), (run(&[]), 11));
+    assert_eq!(take(&A[..11], run(&[]), 6), (run(&[]), 1));
+}
+
+/// The five sentences as a test of two calls, and as lists of predecessors.
+#[test]
+fn precedence_both_ways() {
+    for table in tables::corpus().step_by(301) {
+        let before = table.predecessors();
+        for (second, listed) in before.iter().enumerate() {
+            let found: Vec<usize> =
+                (0..table.calls()).filter(|&first| table.precedes(first, second)).collect();
+            assert_eq!(&found, listed);
+        }
+        assert!(!table.precedes(table.calls(), 0) && !table.precedes(0, table.calls()));
     }
 }

@@ -1,10 +1,15 @@
-// The text calls for tests and desktop programs, which the box does not export.
+// What tests and desktop programs call and the box does not export: the text, a judged run, precedence.
 ghost use mathlib.Core.Path.{_≡_};
 ghost use lib.ListN.{length};
+ghost use Rattle.table.specs.Packed.{shapeOf};
+ghost use Rattle.calls.specs.Precedence.{precedes as precedes-test};
+ghost use Rattle.judge.specs.Taken.{taken};
 ghost use Rattle.search.specs.Front.{fronted};
 ghost use Rattle.grammar.specs.Reading.{reading};
 ghost use Rattle.printing.specs.Listed.{listed};
 ghost use Rattle.listing.specs.Listing.{listing};
+use judge::Run;
+use judge::Taken;
 
 // A number, and a line or how many bytes were written, apart: a line may be above 255.
 #[repr(C)]
@@ -46,4 +51,20 @@ pub extern "C" fn oorlichday_list(text: &[u8], out: &mut [u8]) -> Reading
         number: listed.number,
         place: listed.place,
     }
+}
+
+// One call of a judged run: the next run with 0, or the run as it was with the number of the refusal.
+#[no_mangle]
+pub extern "C" fn oorlichday_take(table: &[u8], run: Run, call: usize) -> Taken
+    ensures { λ r. ⌜ r ≡ taken (now (table .entry)) run call ⌝ }
+{
+    run.take(table, call)
+}
+
+// Is the first call a direct predecessor of the second?
+#[no_mangle]
+pub extern "C" fn oorlichday_precedes(table: &[u8], first: usize, second: usize) -> bool
+    ensures { λ r. ⌜ r ≡ precedes-test (shapeOf (now (table .entry))) first second ⌝ }
+{
+    calls::precedence::precedes(table, first, second)
 }

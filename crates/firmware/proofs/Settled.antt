@@ -1,6 +1,8 @@
 -- The contracts of the public functions, as callers read them: nothing is asked, one answer is permitted, with every lent byte.
 use mathlib.Core.Path.{ap, sym, refl, _∙_}
-use Rattle.search.specs.Contracts.{Settles}
+use base.Logic.{emp, id⊢}
+use Rattle.search.specs.Contracts.{Settles, SettlesClauses, facts}
+use Rattle.firmware.proofs.oorlichday_verdict_of_records as oorlichday-verdict-of-records
 use Rattle.firmware.proofs.oorlichday_check.Kinds as oorlichday-check
 use Rattle.firmware.proofs.oorlichday_check.Reads as oorlichday-check-says
 use Rattle.firmware.proofs.oorlichday_order.Kinds as oorlichday-order
@@ -19,3 +21,10 @@ oorlichday-order-settled = (
 
 pub oorlichday-verdict-settled : Settles oorlichday-verdict.ps oorlichday-verdict.r oorlichday-verdict-says.Asked oorlichday-verdict-says.Learnt
 oorlichday-verdict-settled = ((λ κs a. tt), (λ κs a x y w v p q. (p ∙ sym q, refl)))
+
+pub oorlichday-verdict-of-records-settled : SettlesClauses oorlichday-verdict-of-records.ended
+    (λ m. oorlichday-verdict-of-records.clauses (m .𝓤) (m .H) (m .𝓖 .A) (m .𝓜 .mem) (m .𝓡 .run))
+oorlichday-verdict-of-records-settled = (
+  (λ m κs a g. id⊢ (m .𝓤) (emp (m .𝓤))),
+  (λ m κs a g x y w v. facts m _ _ _ (λ p q. (p ∙ sym q, refl))),
+)

@@ -2,11 +2,14 @@
 ghost use mathlib.Core.Path.{_≡_};
 ghost use Prim.Native.Nat.{_≤_};
 ghost use Rattle.table.specs.Check.{checked};
+ghost use Rattle.table.specs.Packed.{shapeOf};
+ghost use Rattle.judge.specs.Records.{allNumbered};
 ghost use Rattle.judging.specs.Verdict.{verdictOf};
 ghost use Rattle.search.specs.Front.{fronted};
 ghost use Rattle.sorter.specs.Ordering.{ordering};
 ghost use lib.ListN.{length};
 ghost use Rattle.firmware.specs.Code.{coded};
+use judge::records::Record;
 use table::Answer;
 
 // 256 times the number plus the place, which is at most 224.
@@ -41,4 +44,13 @@ pub extern "C" fn oorlichday_verdict(table: &[u8], order: &[u8]) -> u32
     ensures { λ r. ⌜ r ≡ coded (verdictOf (now (table .entry)) (now (order .entry))) ⌝ }
 {
     code(judge::verdict(table, order))
+}
+
+// Does the firmware's own schedule, a list of records, keep the rules?
+#[no_mangle]
+pub extern "C" fn oorlichday_verdict_of_records(table: &[u8], records: &[Record]) -> u32
+    ensures { λ r. ⌜ r ≡ coded (verdictOf (now (table .entry))
+        (allNumbered (shapeOf (now (table .entry))) (now (records .entry)))) ⌝ }
+{
+    code(judge::records::verdict_of_records(table, records))
 }

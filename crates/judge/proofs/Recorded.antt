@@ -1,25 +1,19 @@
 -- One law for each answer of the functions that the walk over records calls.
 use mathlib.Core.Path.{_≡_, _∙_}
-use mathlib.Core.Bool.{true, false, cond}
+use mathlib.Core.Bool.{Bool, true, cond}
 use mathlib.Core.List.{List}
 use Prim.Native.Nat.{ℕ, _+_, _≤_, _<_}
 use native.Mathlib.Omega.{arith}
-use lib.ListN.{set, replicate}
-use lib.Dec.{ltb}
+use lib.ListN.{set}
+use lib.Dec.{eqb, ltb}
 use borrow.Author.Tests.{eq-eqb, ne-eqb}
 use Rattle.search.specs.Truth.{lt-true, lt-false}
-use Rattle.table.specs.declared.Answer.{Answer}
 use Rattle.table.specs.Shape.{Shape}
 use Rattle.table.specs.Packed.{units, outputs, inputs, shapeOf}
-use Rattle.table.specs.Check.{checked}
 use Rattle.judging.specs.Conditions.{refusalAt}
-use Rattle.judging.specs.Verdict.{answer, atEnd}
 use Rattle.judge.specs.declared.records.Record.{Record}
-use Rattle.judge.specs.declared.records.Judged.{Judged}
 use Rattle.judge.specs.Marks.{marks}
 use Rattle.judge.specs.Records.{numbered}
-use Rattle.judge.specs.Carried.{begun, judgedCall, judgedNext, concluded}
-use Rattle.judge.proofs.Turns.{checked-number}
 
 module _ (number count first none : ℕ) where
   pub within-yes : number < count → first + number ≡ cond (ltb number count) (first + number) none
@@ -50,33 +44,14 @@ module _ (t : List ℕ) (r : Record) (u y x : ℕ) (eu : u ≡ units t) (ey : y 
   unfolding numbered
   record-none a b c = rw (ne-eqb (r .kind) 0 a, ne-eqb (r .kind) 1 b, ne-eqb (r .kind) 2 c, eu, ey, ex)
 
-pub begun-is : (t : List ℕ) (a : Answer) → a ≡ checked t
-    → _≡_ {A = Judged} (record { done = replicate 224 false; number = a .number; place = 0 }) (begun t)
-unfolding begun
-begun-is t a e = rw (checked-number t a e)
+-- what a record is answered, and the marks that it leaves
+module _ (s : Shape) (r : Record) (d : List Bool) (c n : ℕ) (ec : c ≡ numbered s r)
+    (en : n ≡ refusalAt s (marks d) c) where
+  abbrev Judged : List Bool → Type 0
+  Judged e = (n ≡ refusalAt s (marks d) (numbered s r)) × (e ≡ cond (eqb n 0) (set d (numbered s r) true) d)
 
-module _ (s : Shape) (j : Judged) (r : Record) (k : ℕ) where
-  pub next-refused : (j .number ≡ 0 → ⊥) → j ≡ judgedNext s j r k
-  unfolding judgedNext
-  next-refused h = rw (ne-eqb (j .number) 0 h)
+  pub record-taken : n ≡ 0 → Judged (set d c true)
+  record-taken h = rw (← ec) (en, rw (eq-eqb n 0 h))
 
-  module _ (sound : j .number ≡ 0) (c n : ℕ) (ec : c ≡ numbered s r) (en : n ≡ refusalAt s (marks (j .done)) c) where
-    pub next-stops : (n ≡ 0 → ⊥)
-        → _≡_ {A = Judged} (record { done = j .done; number = n; place = k }) (judgedNext s j r k)
-    unfolding judgedNext judgedCall
-    next-stops h = rw (eq-eqb (j .number) 0 sound, ← ec, ← en, ne-eqb n 0 h)
-
-    pub next-goes : n ≡ 0
-        → _≡_ {A = Judged} (record { done = set (j .done) c true; number = j .number; place = j .place })
-        (judgedNext s j r k)
-    unfolding judgedNext judgedCall
-    next-goes h = rw (eq-eqb (j .number) 0 sound, ← ec, ← en, eq-eqb n 0 h)
-
-module _ (s : Shape) (j : Judged) (k : ℕ) where
-  pub concluded-refused : (j .number ≡ 0 → ⊥) → answer (j .number) (j .place) ≡ concluded s j k
-  unfolding concluded
-  concluded-refused h = rw (ne-eqb (j .number) 0 h)
-
-  pub concluded-ended : j .number ≡ 0 → (a : Answer) → a ≡ atEnd s k → a ≡ concluded s j k
-  unfolding concluded
-  concluded-ended h a e = e ∙ rw (eq-eqb (j .number) 0 h)
+  pub record-refused : (n ≡ 0 → ⊥) → Judged d
+  record-refused h = rw (← ec) (en, rw (ne-eqb n 0 h))

@@ -1,12 +1,15 @@
 -- One law for each answer of the functions that scan the inputs and the feeds.
-use mathlib.Core.Path.{_≡_}
-use mathlib.Core.Bool.{Bool, Bool·beq, false, not}
+use mathlib.Core.Path.{_≡_, refl}
+use mathlib.Core.Bool.{Bool, Bool·beq, true, false, not}
 use mathlib.Core.List.{List}
 use Prim.Native.Nat.{ℕ, _+_, _≤_, _<_}
+use native.Mathlib.Omega.{arith}
 use lib.ListN.{getD}
-use lib.Dec.{eqb}
+use lib.Dec.{T, eqb}
 use borrow.Author.Tests.{eq-eqb, ne-eqb, le-leb, lt-leb}
-use Rattle.search.specs.Truth.{lt-true, lt-false}
+use borrow.Author.Count.{below-more}
+use Rattle.search.specs.Truth.{lt-true, lt-false, says, denies}
+use Rattle.search.specs.Every.{some, some-yes, some-no}
 use Rattle.table.specs.Packed.{pairInput, pairOutput}
 use Rattle.judge.specs.Marks.{marks}
 use Rattle.judge.specs.Scans.{amissAt, lackingAt}
@@ -44,3 +47,16 @@ module _ (ps : List ℕ) (done : List Bool) (first output k : ℕ) where
       → (r : Bool) → r ≡ marks done (first + input) → not r ≡ lackingAt ps done first output k
   unfolding lackingAt
   lacking-mark e input i r q = rw (eq-eqb (pairOutput ps k) output e, q, i)
+
+-- ---- a scan that looks at two in a turn
+
+-- what holds below k and of the next two holds below k + 2
+pub two-more : (P : ℕ → Type 0) (k : ℕ) → ((i : ℕ) → i < k → P i) → P k → P (k + 1) → (i : ℕ) → i < k + 2 → P i
+two-more P k h a b i l = below-more P (k + 1) (below-more P k h a) b i (omega arith)
+
+-- the one left over decides
+pub some-last : (q : ℕ → Bool) (n k : ℕ) → k < n → n ≤ k + 1 → ((i : ℕ) → i < k → T (not (q i)))
+    → (r : Bool) → r ≡ q k → r ≡ some q n
+some-last q n k h g before true e = some-yes q n k h (says e refl)
+some-last q n k h g before false e =
+    some-no q n (k + 1) g (below-more (λ i. T (not (q i))) k before (denies e refl))

@@ -31,6 +31,10 @@ use Rattle.judge.specs.Taken.{advanced, taken}
 pub byte-fits : (x : ℕ) → x < 2 ^ 8 → Fits w64 x
 byte-fits x h = record { fits = omega arith }
 
+-- and so does a byte behind the first of a kind's calls
+pub sum-fits : (first x : ℕ) → first ≤ 224 → x < 2 ^ 8 → Fits w64 (first + x)
+sum-fits first x f h = record { fits = omega arith }
+
 -- the check's number is the table's refusal
 pub checked-number : (t : List ℕ) (a : Answer) → a ≡ checked t → a .number ≡ refusal t
 unfolding checked

@@ -1,37 +1,37 @@
 -- What the walk over records carries leads to the verdict on the numbered form.
 use mathlib.Core.Path.{_≡_, refl, sym, ap, _∙_}
-use mathlib.Core.Logic.{_⊎_, inl, inr, _≢_}
-use mathlib.Core.Bool.{Bool, true, false}
+use mathlib.Core.Logic.{_≢_}
+use mathlib.Core.Bool.{Bool, true, false, cond}
 use mathlib.Core.List.{List, [], _∷_}
-use Prim.Native.Nat.{ℕ, zero, suc, _+_, _≤_, _<_}
+use Prim.Native.Nat.{ℕ, zero, suc, _+_, _<_}
 use native.Mathlib.Omega.{arith}
 use native.Mathlib.Numerals.{add-one}
-use native.Mathlib.Decide.{ℕ-discrete}
-use lib.ListN.{length, getD, drop, length-set, length-replicate}
+use lib.Dec.{eqb}
+use lib.ListN.{length, getD, set, drop, replicate, length-set, length-replicate}
+use borrow.Author.Tests.{eq-eqb, ne-eqb}
 use Rattle.search.specs.Sets.{none}
+use Rattle.table.specs.declared.Answer.{Answer}
 use Rattle.table.specs.Shape.{Shape}
 use Rattle.table.specs.Packed.{shapeOf}
-use Rattle.table.specs.Check.{refusal}
+use Rattle.table.specs.Check.{refusal, checked}
 use Rattle.judging.specs.Conditions.{refusalAt}
 use Rattle.judging.specs.Verdict.{answer, atEnd, verdictFrom, verdictOf}
 use Rattle.judging.specs.Judged.{verdict-sound, verdict-unsound}
 use Rattle.judge.specs.declared.records.Record.{Record}
-use Rattle.judge.specs.declared.records.Judged.{Judged}
 use Rattle.judge.specs.Marks.{marks}
 use Rattle.judge.specs.Records.{numbered, allNumbered}
-use Rattle.judge.specs.Carried.{begun, judgedNext, concluded, noRecord, upTo}
 use Rattle.judging.specs.Demand.{taken-small}
-use Rattle.judge.proofs.Turns.{turn-starts, turn-on, turn-off, turn-ends}
-use Rattle.judge.proofs.Recorded.{next-refused, next-stops, next-goes, concluded-refused, concluded-ended}
+use Rattle.judge.proofs.Carried.{noRecord, markedUpTo}
+use Rattle.judge.proofs.Turns.{checked-number, turn-starts, turn-on, turn-off, turn-ends}
 
 -- ---- the numbered form, place by place
 
-pub numbered-length : (s : Shape) (rs : List Record) → length (allNumbered s rs) ≡ length rs
+numbered-length : (s : Shape) (rs : List Record) → length (allNumbered s rs) ≡ length rs
 unfolding allNumbered
 numbered-length s [] = refl
 numbered-length s (r ∷ rs) = ap suc (numbered-length s rs)
 
-pub numbered-at : (s : Shape) (rs : List Record) (i : ℕ) → i < length rs
+numbered-at : (s : Shape) (rs : List Record) (i : ℕ) → i < length rs
     → getD (allNumbered s rs) i 0 ≡ numbered s (getD rs i noRecord)
 unfolding allNumbered
 numbered-at s [] i h = absurd (omega arith)
@@ -41,98 +41,67 @@ numbered-at s (r ∷ rs) (suc i) h = numbered-at s rs i (omega arith)
 -- ---- after so many records
 
 module _ (t : List ℕ) (rs : List Record) where
-  pub up-next : (i : ℕ) → judgedNext (shapeOf t) (upTo t rs i) (getD rs i noRecord) i ≡ upTo t rs (i + 1)
-  unfolding upTo
-  up-next i = rw add-one
-
-  pub up-starts : begun t ≡ upTo t rs 0
-  unfolding upTo
-  up-starts = refl
-
-  unsound-stays : refusal t ≢ 0 → (i : ℕ) → upTo t rs i ≡ begun t
-  unfolding upTo begun
-  unsound-stays z zero = refl
-  unsound-stays z (suc i) =
-      let e = unsound-stays z i in
-      sym (next-refused (shapeOf t) (upTo t rs i) (getD rs i noRecord) i (λ q. z (sym (ap (λ j. j .number) e) ∙ q)))
-      ∙ e
-
-  -- while nothing is refused, the table is sound
-  pub up-sound : (i : ℕ) → upTo t rs i .number ≡ 0 → refusal t ≡ 0
-  unfolding begun
-  up-sound i e = elim (ℕ-discrete (refusal t) 0) [
-    | yes z ↦ z
-    | no z ↦ absurd (z (sym (ap (λ j. j .number) (unsound-stays z i)) ∙ e))
-  ]
-
   abbrev all : List ℕ
   all = allNumbered (shapeOf t) rs
 
-  -- what the verdict on all is, from what was carried so far
-  abbrev Carries : Judged → ℕ → Type 0
-  Carries j i =
-      ((j .number ≡ 0) × (length (j .done) ≡ 224)
-      × (verdictFrom (shapeOf t) none all 0 ≡ verdictFrom (shapeOf t) (marks (j .done)) (drop i all) i))
-      ⊎ ((j .number ≢ 0) × (verdictFrom (shapeOf t) none all 0 ≡ answer (j .number) (j .place)))
+  abbrev marked : ℕ → List Bool
+  marked = markedUpTo (shapeOf t) rs
 
-  module _ (sound : refusal t ≡ 0) where
-    carries-on : (j : Judged) (i : ℕ) → i < length rs → Carries j i
-        → Carries (judgedNext (shapeOf t) j (getD rs i noRecord) i) (i + 1)
-    carries-on j i h (inr (n, e)) =
-        rw (← next-refused (shapeOf t) j (getD rs i noRecord) i n) (inr (n, e))
-    carries-on j i h (inl (o, long, e)) = elim (ℕ-discrete n 0) [
-      | yes z ↦
-          rw (← next-goes (shapeOf t) j (getD rs i noRecord) i o c n at-i refl z)
-          (inl (
-            o,
-            length-set (j .done) c true ∙ long,
-            e ∙ turn-on (shapeOf t) all (j .done) i n here refl z (small z) long,
-          ))
-      | no z ↦
-          rw (← next-stops (shapeOf t) j (getD rs i noRecord) i o c n at-i refl z)
-          (inr (z, e ∙ turn-off (shapeOf t) all (j .done) i n here refl z))
-    ]
-      where
-        c : ℕ
-        c = getD all i 0
+  abbrev call : ℕ → ℕ
+  call i = numbered (shapeOf t) (getD rs i noRecord)
 
-        n : ℕ
-        n = refusalAt (shapeOf t) (marks (j .done)) (getD all i 0)
+  -- the verdict on all the records is that on those left, from the marks so far
+  abbrev pub Carries : ℕ → Type 0
+  Carries i =
+      (length (marked i) ≡ 224)
+      × (verdictFrom (shapeOf t) none all 0 ≡ verdictFrom (shapeOf t) (marks (marked i)) (drop i all) i)
 
-        at-i : getD all i 0 ≡ numbered (shapeOf t) (getD rs i noRecord)
-        at-i = numbered-at (shapeOf t) rs i h
+  pub marked-starts : replicate 224 false ≡ marked 0
+  unfolding markedUpTo
+  marked-starts = refl
 
-        here : i < length all
-        here = omega (arith, numbered-length (shapeOf t) rs)
+  marked-next : (i : ℕ) → marked (i + 1) ≡ set (marked i) (call i) true
+  unfolding markedUpTo
+  marked-next i = rw add-one
 
-        small : refusalAt (shapeOf t) (marks (j .done)) (getD all i 0) ≡ 0 → getD all i 0 < 224
-        small z =
-            taken-small t sound (marks (j .done)) (getD all i 0)
-            (refusalAt (shapeOf t) (marks (j .done)) (getD all i 0)) refl z
+  pub marked-on : (i n : ℕ) → n ≡ 0 → cond (eqb n 0) (set (marked i) (call i) true) (marked i) ≡ marked (i + 1)
+  marked-on i n z = rw (eq-eqb n 0 z) (sym (marked-next i))
 
-    carried : (i : ℕ) → i ≤ length rs → Carries (upTo t rs i) i
-    unfolding upTo begun
-    carried zero h = inl (sound, length-replicate {A = Bool} 224 false, turn-starts (shapeOf t) all)
-    carried (suc i) h = rw (← add-one i) (carries-on (upTo t rs i) i (omega arith) (carried i (omega arith)))
+  pub carries-starts : Carries 0
+  unfolding markedUpTo
+  carries-starts = (length-replicate {A = Bool} 224 false, turn-starts (shapeOf t) all)
 
-    sound-ends : concluded (shapeOf t) (upTo t rs (length rs)) (length rs) ≡ verdictFrom (shapeOf t) none all 0
-    sound-ends = elim (carried (length rs) (omega arith)) [
-      | inl (o, long, e) ↦
-          (sym (concluded-ended (shapeOf t) (upTo t rs (length rs)) (length rs) o (atEnd (shapeOf t) (length rs)) refl)
-          ∙ sym
-          (turn-ends (shapeOf t) all (upTo t rs (length rs) .done) (length rs)
-          (omega (arith, numbered-length (shapeOf t) rs)))
-          ∙ sym e)
-      | inr (n, e) ↦ (sym (concluded-refused (shapeOf t) (upTo t rs (length rs)) (length rs) n) ∙ sym e)
-    ]
+  module _ (sound : refusal t ≡ 0) (i n : ℕ) (h : i < length rs)
+      (e : n ≡ refusalAt (shapeOf t) (marks (marked i)) (call i)) (c : Carries i) where
+    at-i : getD all i 0 ≡ call i
+    at-i = numbered-at (shapeOf t) rs i h
 
-  -- the walk's answer is the verdict on the numbered form
-  pub records-verdict : concluded (shapeOf t) (upTo t rs (length rs)) (length rs) ≡ verdictOf t all
-  unfolding begun
-  records-verdict = elim (ℕ-discrete (refusal t) 0) [
-    | yes z ↦ sound-ends z ∙ sym (verdict-sound t all z)
-    | no z ↦
-        (ap (λ j. concluded (shapeOf t) j (length rs)) (unsound-stays z (length rs))
-        ∙ sym (concluded-refused (shapeOf t) (begun t) (length rs) z)
-        ∙ sym (verdict-unsound t all z))
-  ]
+    here : i < length all
+    here = omega (arith, numbered-length (shapeOf t) rs)
+
+    refused-at : n ≡ refusalAt (shapeOf t) (marks (marked i)) (getD all i 0)
+    refused-at = rw at-i e
+
+    pub carries-on : n ≡ 0 → Carries (i + 1)
+    carries-on z =
+        let small = taken-small t sound (marks (marked i)) (getD all i 0) n refused-at z in
+        rw (marked-next i, ← at-i) (
+          length-set (marked i) (getD all i 0) true ∙ c .0,
+          c .1 ∙ turn-on (shapeOf t) all (marked i) i n here refused-at z small (c .0),
+        )
+
+    pub carries-off : n ≢ 0 → answer n i ≡ verdictOf t all
+    carries-off z =
+        sym (turn-off (shapeOf t) all (marked i) i n here refused-at z) ∙ sym (c .1) ∙ sym (verdict-sound t all sound)
+
+  pub carries-ends : refusal t ≡ 0 → (i : ℕ) → i ≡ length rs → Carries i → atEnd (shapeOf t) i ≡ verdictOf t all
+  carries-ends sound i e c =
+      sym (turn-ends (shapeOf t) all (marked i) i (omega (arith, numbered-length (shapeOf t) rs)))
+      ∙ sym (c .1) ∙ sym (verdict-sound t all sound)
+
+  -- the check's refusal has place 0, as the verdict's
+  pub unsound-refused : (a : Answer) → a ≡ checked t → a .number ≢ 0 → a ≡ verdictOf t all
+  unfolding checked
+  unsound-refused a e h =
+      let z : refusal t ≢ 0 = λ q. h (checked-number t a e ∙ q) in
+      e ∙ rw (ne-eqb (refusal t) 0 z) (sym (verdict-unsound t all z))

@@ -4,5 +4,4 @@ pub mod Taken
 pub mod CallByCall
 pub mod InTurn
 pub mod Records
-pub mod Carried
 pub mod Computed

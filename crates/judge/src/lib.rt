@@ -18,11 +18,13 @@ pub mod records;
 mod scans;
 
 // Which call numbers below 224 are done.
+#[repr(C)]
 pub struct Run {
     pub done: [bool; 224],
 }
 
 // The run after a call, with the number that the call is answered.
+#[repr(C)]
 pub struct Taken {
     pub run: Run,
     pub number: u8,

@@ -1,13 +1,15 @@
 // The verdict on the firmware's own schedule, a lent slice of records: SPECIFICATION, Records.
 ghost use mathlib.Core.Path.{_≡_};
-ghost use mathlib.Core.Bool.{cond};
+ghost use mathlib.Core.Bool.{cond, true};
 ghost use Prim.Native.Nat.{_+_, _<_};
-ghost use lib.Dec.{ltb};
+ghost use lib.Dec.{eqb, ltb};
+ghost use lib.ListN.{set};
 ghost use Rattle.table.specs.Packed.{shapeOf};
 ghost use Rattle.table.specs.Check.{refusal};
+ghost use Rattle.judging.specs.Conditions.{refusalAt};
 ghost use Rattle.judging.specs.Verdict.{verdictOf};
+ghost use Rattle.judge.specs.Marks.{marks};
 ghost use Rattle.judge.specs.Records.{numbered, allNumbered};
-ghost use Rattle.judge.specs.Carried.{begun as begun-of, judgedNext, concluded};
 use crate::conditions::refusal_at;
 use crate::ended;
 use table::Answer;
@@ -17,16 +19,10 @@ use table::parts::output_count;
 use table::parts::unit_count;
 
 // Kind 0, 1 or 2 for step, get, set, and the number counted within its kind.
+#[repr(C)]
 pub struct Record {
     pub kind: u8,
     pub number: u8,
-}
-
-// The calls done so far, and the refusal with its place once there is one.
-pub struct Judged {
-    pub done: [bool; 224],
-    pub number: u8,
-    pub place: usize,
 }
 
 // `first` + `number` where the number is below the count, else `none`.
@@ -57,51 +53,28 @@ fn call_number(table: &[u8], given: Record) -> usize
     }
 }
 
-// Before the first record: the table's refusal, if it has one.
-fn begun(table: &[u8]) -> Judged
-    ensures { λ r. ⌜ r ≡ begun-of (now (table .entry)) ⌝ }
+// One record on a sound table: 0 with its call marked, or the number of its refusal and no mark.
+fn judge_record(table: &[u8], done: &mut [bool; 224], given: Record) -> u8
+    requires { ⌜ refusal (now table) ≡ 0 ⌝ }
+    ensures { λ r.
+        ⌜ r
+        ≡ refusalAt
+        (shapeOf (now (table .entry)))
+        (marks (now (done .entry)))
+        (numbered (shapeOf (now (table .entry))) given) ⌝ }
+    ensures { λ r.
+        ⌜ now (done .exit)
+        ≡ cond
+        (eqb r 0)
+        (set (now (done .entry)) (numbered (shapeOf (now (table .entry))) given) true)
+        (now (done .entry)) ⌝ }
 {
-    let checked = check(table);
-    Judged {
-        done: [false; 224],
-        number: checked.number,
-        place: 0,
-    }
-}
-
-// One record more, at its place: nothing changes after a refusal.
-fn judged_next(judged: Judged, table: &[u8], given: Record, place: usize) -> Judged
-    requires { ⌜ (judged .number ≡ 0 → refusal (now table) ≡ 0) ⌝ }
-    ensures { λ r. ⌜ r ≡ judgedNext (shapeOf (now (table .entry))) judged given place ⌝ }
-{
-    if judged.number != 0 {
-        return judged;
-    }
-    let done = judged.done;
     let call = call_number(table, given);
-    let number = refusal_at(table, &done, call);
-    let mut next = judged;
-    if number != 0 {
-        next.number = number;
-        next.place = place;
-        return next;
+    let number = refusal_at(table, done, call);
+    if number == 0 {
+        done[call] = true;
     }
-    next.done[call] = true;
-    next
-}
-
-// The answer once the records have ended.
-fn concluded_at(judged: Judged, table: &[u8], taken: usize) -> Answer
-    ensures { λ r. ⌜ r ≡ concluded (shapeOf (now (table .entry))) judged taken ⌝ }
-{
-    let number = judged.number;
-    if number != 0 {
-        return Answer {
-            number: number,
-            place: judged.place,
-        };
-    }
-    ended(table, taken)
+    number
 }
 
 // The verdict on a list of records: that on their call numbers.
@@ -112,11 +85,21 @@ pub fn verdict_of_records(table: &[u8], records: &[Record]) -> Answer
         (now (table .entry))
         (allNumbered (shapeOf (now (table .entry))) (now (records .entry))) ⌝ }
 {
-    let mut judged = begun(table);
+    let checked = check(table);
+    if checked.number != 0 {
+        return checked;
+    }
+    let mut done = [false; 224];
     let mut place = 0;
     while place < records.len() {
-        judged = judged_next(judged, table, records[place], place);
+        let number = judge_record(table, &mut done, records[place]);
+        if number != 0 {
+            return Answer {
+                number: number,
+                place: place,
+            };
+        }
         place += 1;
     }
-    concluded_at(judged, table, place)
+    ended(table, place)
 }

@@ -5,7 +5,6 @@ ghost use lib.ListN.{length};
 ghost use Rattle.search.specs.Every.{some};
 ghost use Rattle.judge.specs.Marks.{marks};
 ghost use Rattle.judge.specs.Scans.{amissAt, lackingAt};
-use table::parts::byte;
 
 // Is this call number marked as done?
 pub fn marked(done: &[bool; 224], call: usize) -> bool
@@ -80,21 +79,28 @@ fn lacking(pairs: &[u8], done: &[bool; 224], first: usize, output: u8, k: usize)
     if pairs[2 * k + 1] != output {
         return false;
     }
-    !marked(done, first + byte(pairs, 2 * k))
+    let input = pairs[2 * k] as usize;
+    !marked(done, first + input)
 }
 
-// Does some pair feed the output from an input that is not set?
+// Does some pair feed the output from an input that is not set? Two pairs are looked at in a turn.
 pub fn some_lacking(pairs: &[u8], done: &[bool; 224], first: usize, output: u8, f: usize) -> bool
     requires { ⌜ 2 * f ≤ length (now pairs) ⌝ }
     requires { ⌜ first ≤ 224 ⌝ }
     ensures { λ r. ⌜ r ≡ some (lackingAt (now (pairs .entry)) (now (done .entry)) first output) f ⌝ }
 {
     let mut k = 0;
-    while k < f {
+    while k + 1 < f {
         if lacking(pairs, done, first, output, k) {
             return true;
         }
-        k += 1;
+        if lacking(pairs, done, first, output, k + 1) {
+            return true;
+        }
+        k += 2;
+    }
+    if k < f {
+        return lacking(pairs, done, first, output, k);
     }
     false
 }

@@ -1,6 +1,8 @@
 //! The archive's functions, each called on buffers beside pages without access.
 
 use super::lent::{Lent, Side};
+use super::records::{as_bytes, Record};
+use crate::reference::verdict::Run;
 use crate::reference::Answer;
 use std::ops::Range;
 
@@ -14,6 +16,27 @@ pub struct Reading {
 impl Reading {
     fn answer(self) -> Answer {
         Answer { number: self.number as usize, place: self.place }
+    }
+}
+
+/// A run as C has it; a mark is a byte here, so that one that is neither 0 nor 1 is seen.
+#[repr(C)]
+#[derive(Clone, Copy)]
+pub struct Marks {
+    done: [u8; 224],
+}
+
+#[repr(C)]
+#[derive(Clone, Copy)]
+pub struct Taken {
+    run: Marks,
+    number: u8,
+}
+
+impl Taken {
+    fn run_and_number(self) -> (Run, usize) {
+        assert!(self.run.done.iter().all(|&mark| mark < 2), "a mark is neither 0 nor 1");
+        (Run { done: self.run.done.map(|mark| mark == 1) }, self.number as usize)
     }
 }
 
@@ -31,6 +54,19 @@ extern "C" {
         order: *const u8,
         order_len: usize,
     ) -> u32;
+    fn oorlichday_verdict_of_records(
+        table: *const u8,
+        table_len: usize,
+        records: *const u8,
+        count: usize,
+    ) -> u32;
+    fn oorlichday_take(table: *const u8, table_len: usize, run: Marks, call: usize) -> Taken;
+    fn oorlichday_precedes(
+        table: *const u8,
+        table_len: usize,
+        first: usize,
+        second: usize,
+    ) -> u8;
     fn oorlichday_read(
         text: *const u8,
         text_len: usize,
@@ -110,6 +146,41 @@ impl Lender {
             let (table_at, order_at) = (lent.add(table.start), lent.add(order.start));
             oorlichday_verdict(table_at, table.len(), order_at, order.len())
         })
+    }
+
+    pub fn verdict_of_records(&mut self, table: &[u8], records: &[Record]) -> u32 {
+        self.written(table, &as_bytes(records), &[], |lent, given| unsafe {
+            oorlichday_verdict_of_records(lent, table.len(), given, records.len())
+        })
+    }
+
+    /// The verdict on records that are a stretch of the bytes in which the table lies.
+    pub fn shared_records(
+        &mut self,
+        bytes: &[u8],
+        table: Range<usize>,
+        records: usize,
+        count: usize,
+    ) -> u32 {
+        self.written(bytes, &[], &[], |lent, _| unsafe {
+            let (table_at, at) = (lent.add(table.start), lent.add(records));
+            oorlichday_verdict_of_records(table_at, table.len(), at, count)
+        })
+    }
+
+    pub fn take(&mut self, table: &[u8], run: Run, call: usize) -> (Run, usize) {
+        let marks = Marks { done: run.done.map(|mark| mark as u8) };
+        self.written(table, &[], &[], |lent, _| unsafe {
+            oorlichday_take(lent, table.len(), marks, call).run_and_number()
+        })
+    }
+
+    pub fn precedes(&mut self, table: &[u8], first: usize, second: usize) -> bool {
+        let answer = self.written(table, &[], &[], |lent, _| unsafe {
+            oorlichday_precedes(lent, table.len(), first, second)
+        });
+        assert!(answer < 2, "{} is neither yes nor no", answer);
+        answer == 1
     }
 
     pub fn read(&mut self, text: &[u8], before: &[u8], front: &[u8]) -> Answer {

@@ -9,6 +9,7 @@ pub mod lent;
 pub mod names;
 pub mod orders;
 pub mod random;
+pub mod records;
 pub mod rounds;
 pub mod several;
 pub mod shapes;

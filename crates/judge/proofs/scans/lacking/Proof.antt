@@ -2,7 +2,9 @@
 use borrow.Author.Needs.{needs}
 use Rattle.judge.proofs.scans.lacking.Statement.{statement}
 use Rattle.judge.proofs.scans.lacking.Tie as tie
+use mathlib.Core.Path.{refl}
 use Rattle.judge.proofs.Scanning.{lacking-other, lacking-mark}
+use Rattle.judge.proofs.Turns.{byte-fits, sum-fits}
 
 mul-if1 : tie.Need-mul-if1
 mul-if1 c = search needs
@@ -16,21 +18,23 @@ shared-slice-read-if1 c = search needs
 returns : tie.Need-returns
 returns c = lacking-other _ _ _ _ _ (c .if1 .taken)
 
-mul-byte : tie.Need-mul-byte
-mul-byte c = search needs
+mul-input : tie.Need-mul-input
+mul-input c = search needs
 
-byte-requires : tie.Need-byte-requires
-byte-requires c κs = search needs
+shared-slice-read-input : tie.Need-shared-slice-read-input
+shared-slice-read-input c = search needs
+
+cast-input : tie.Need-cast-input
+cast-input c = byte-fits _ ((c .shared-slice-known3 .given _) .fits)
 
 add-marked : tie.Need-add-marked
-add-marked c = search needs
+add-marked c = sum-fits _ _ (c .before .before .before .before .pre .1) ((c .shared-slice-known3 .given _) .fits)
 
 marked-requires : tie.Need-marked-requires
 marked-requires c κs = search needs
 
 returns-2 : tie.Need-returns-2
-returns-2 c =
-    lacking-mark _ _ _ _ _ (c .before .before .if1 .left) _ (c .before .byte .ensures .0) _ (c .marked .ensures)
+returns-2 c = lacking-mark _ _ _ _ _ (c .before .before .if1 .left) _ refl _ (c .marked .ensures)
 
 pub lacking-spec : {M : Type 1} → statement M
 lacking-spec =
@@ -40,8 +44,9 @@ lacking-spec =
     add-if1
     shared-slice-read-if1
     returns
-    mul-byte
-    byte-requires
+    mul-input
+    shared-slice-read-input
+    cast-input
     add-marked
     marked-requires
     returns-2)

@@ -6,10 +6,10 @@ use Prim.Native.Nat.{ℕ, _≤_, _<_, _-_}
 use mathlib.Core.Bool.{not}
 use native.Mathlib.Omega.{arith}
 use lib.Dec.{T}
-use borrow.Author.Count.{below-more}
 use Rattle.search.specs.Truth.{says, denies}
 use Rattle.search.specs.Every.{some-yes, some-no}
 use Rattle.judge.specs.Scans.{lackingAt}
+use Rattle.judge.proofs.Scanning.{two-more, some-last}
 
 abbrev Inv-loop : tie.InvT-loop
 Inv-loop pairs done first output f k₀ k =
@@ -21,12 +21,27 @@ abbrev μ-loop : tie.MeasureT-loop
 loop-holds : tie.Need-loop-holds Inv-loop μ-loop
 loop-holds c = (search needs, λ i h. absurd (omega arith))
 
+add-loop : tie.Need-add-loop Inv-loop μ-loop
+add-loop c = search needs
+
 lacking-requires : tie.Need-lacking-requires Inv-loop μ-loop
 lacking-requires c κs = search needs
 
 returns : tie.Need-returns Inv-loop μ-loop
 returns c =
-    some-yes _ _ _ (c .before .before .loop-test .taken) (says (c .before .lacking .ensures) (c .if1 .taken))
+    some-yes _ _ _ (omega (arith, c .before .before .loop-test .taken))
+    (says (c .before .lacking .ensures) (c .if1 .taken))
+
+add-lacking : tie.Need-add-lacking Inv-loop μ-loop
+add-lacking c = search needs
+
+lacking-requires-2 : tie.Need-lacking-requires-2 Inv-loop μ-loop
+lacking-requires-2 c κs = search needs
+
+returns-2 : tie.Need-returns-2 Inv-loop μ-loop
+returns-2 c =
+    some-yes _ _ _ (c .before .before .before .before .loop-test .taken)
+    (says (c .before .lacking2 .ensures) (c .if2 .taken))
 
 add-k : tie.Need-add-k Inv-loop μ-loop
 add-k c = search needs
@@ -37,12 +52,21 @@ loop-less c = search needs
 loop-again : tie.Need-loop-again Inv-loop μ-loop
 loop-again c = (
   search needs,
-  below-more _ _ (c .before .before .before .loop .inv .1)
-      (denies (c .before .lacking .ensures) (c .if1 .left)),
+  two-more _ _ (c .before .before .before .before .before .loop .inv .1)
+      (denies (c .before .before .before .lacking .ensures) (c .before .before .if1 .left))
+      (denies (c .before .lacking2 .ensures) (c .if2 .left)),
 )
 
-returns-2 : tie.Need-returns-2 Inv-loop μ-loop
-returns-2 c = some-no _ _ _ (c .loop-test .left) (c .before .loop .inv .1)
+lacking-requires-3 : tie.Need-lacking-requires-3 Inv-loop μ-loop
+lacking-requires-3 c κs = search needs
+
+returns-3 : tie.Need-returns-3 Inv-loop μ-loop
+returns-3 c =
+    some-last _ _ _ (c .before .if3 .taken) (c .before .before .loop-test .left)
+    (c .before .before .before .loop .inv .1) _ (c .lacking3 .ensures)
+
+returns-4 : tie.Need-returns-4 Inv-loop μ-loop
+returns-4 c = some-no _ _ _ (c .if3 .left) (c .before .before .loop .inv .1)
 
 pub some-lacking-spec : {M : Type 1} → statement M
 some-lacking-spec =
@@ -51,9 +75,15 @@ some-lacking-spec =
     Inv-loop
     μ-loop
     loop-holds
+    add-loop
     lacking-requires
     returns
+    add-lacking
+    lacking-requires-2
+    returns-2
     add-k
     loop-less
     loop-again
-    returns-2)
+    lacking-requires-3
+    returns-3
+    returns-4)
