@@ -5,6 +5,7 @@ mod judged;
 mod lines;
 mod ordered;
 mod preceding;
+mod records;
 mod tables;
 mod taken;
 mod texts;
@@ -14,6 +15,7 @@ fn main() {
     preceding::all();
     ordered::all();
     judged::all();
+    records::all();
     taken::all();
     exported::all();
     texts::all();
