@@ -7,7 +7,7 @@ use crate::tables::greatest;
 use table::check::check;
 use table::parts::stretch;
 
-// 1 and 2: the length, the counts.
+// 1 and 2: the counts, and a length that they do not ask.
 fn counts() {
     gives(b"check of no bytes", check(stretch(&A, 0, 0)));
     gives(b"check of U 33, under 4 bytes", check(&[33u8, 0, 0]));
@@ -18,15 +18,19 @@ fn counts() {
     );
     gives(b"check of U 32", check(&[32u8, 0, 0, 0]));
     gives(b"check of U 0", check(&[0u8, 0, 0, 0]));
+    gives(b"check of X 97", check(&[1u8, 0, 97, 0]));
+    gives(b"check of F 129", check(&[1u8, 0, 0, 129]));
+}
+
+// The greatest counts, and one output more.
+fn greatest_counts() {
+    let most = greatest();
+    gives(b"check of the greatest table", check(&most));
+    gives(b"check of it, a byte cut", check(stretch(&most, 0, 643)));
     let mut outputs = [0u8; 101];
     outputs[0] = 1;
     outputs[1] = 97;
     gives(b"check of Y 97", check(&outputs));
-    gives(b"check of X 97", check(&[1u8, 0, 97, 0]));
-    gives(b"check of F 129", check(&[1u8, 0, 0, 129]));
-    let most = greatest();
-    gives(b"check of the greatest table", check(&most));
-    gives(b"check of it, a byte cut", check(stretch(&most, 0, 643)));
 }
 
 // 3 to 5: owners, kinds, sources.
@@ -69,6 +73,7 @@ fn feeds() {
 
 pub fn all() {
     counts();
+    greatest_counts();
     ports();
     feeds();
 }
