@@ -1,4 +1,4 @@
-/* The tank's table and names, and the run of a list of calls. */
+/* The tank's table, schedule and names, and the run of a list of calls. */
 #include "tank.h"
 #include "models.h"
 
@@ -18,6 +18,25 @@ const uint8_t tank_table[] = {
     SKIMMER_FLOW, SKIMMER_AIR,
 };
 
+/* Each unit when the values that it steps on are there; FAULTY is for a run that must be refused. */
+const struct oorlichday_record tank_schedule[CALLS] = {
+#ifdef FAULTY
+    { OORLICHDAY_GET, HEATER_HEAT }, { OORLICHDAY_STEP, HEATER },
+#else
+    { OORLICHDAY_STEP, HEATER }, { OORLICHDAY_GET, HEATER_HEAT },
+#endif
+    { OORLICHDAY_SET, WATER_HEAT },
+    { OORLICHDAY_STEP, RETURN }, { OORLICHDAY_STEP, PUMP },
+    { OORLICHDAY_GET, PUMP_FLOW }, { OORLICHDAY_SET, RETURN_INFLOW },
+    { OORLICHDAY_GET, RETURN_FLOW }, { OORLICHDAY_SET, WATER_FLOW },
+    { OORLICHDAY_SET, SKIMMER_FLOW }, { OORLICHDAY_STEP, SKIMMER },
+    { OORLICHDAY_GET, SKIMMER_AIR }, { OORLICHDAY_SET, WATER_AIR },
+    { OORLICHDAY_STEP, LIGHT }, { OORLICHDAY_GET, LIGHT_LUX }, { OORLICHDAY_SET, WATER_LIGHT },
+    { OORLICHDAY_STEP, WATER },
+    { OORLICHDAY_GET, WATER_OXYGEN }, { OORLICHDAY_SET, PUMP_OXYGEN },
+    { OORLICHDAY_GET, WATER_TEMPERATURE }, { OORLICHDAY_SET, HEATER_TEMPERATURE },
+};
+
 const char *const call_names[CALLS] = {
     "step light", "step pump", "step return", "step heater", "step skimmer", "step water",
     "get light lux", "get pump flow", "get return flow", "get heater heat", "get skimmer air",
@@ -33,12 +52,17 @@ static void set(struct twin *twin, unsigned input)
     twin->input[input] = twin->output[sources[input]];
 }
 
+static void get(struct twin *twin, unsigned output)
+{
+    twin->output[output] = model_output(twin, output);
+}
+
 static void take(struct twin *twin, unsigned call)
 {
     if (call < UNITS)
         model_step(twin, call);
     else if (call < UNITS + OUTPUTS)
-        twin->output[call - UNITS] = model_output(twin, call - UNITS);
+        get(twin, call - UNITS);
     else if (call < CALLS)
         set(twin, call - UNITS - OUTPUTS);
 }
@@ -47,6 +71,17 @@ void twin_run(struct twin *twin, const uint8_t *calls, size_t count)
 {
     for (size_t place = 0; place < count; place++)
         take(twin, calls[place]);
+}
+
+void twin_run_schedule(struct twin *twin, const struct oorlichday_record *records, size_t count)
+{
+    for (size_t place = 0; place < count; place++)
+        switch (records[place].kind) {
+        case OORLICHDAY_STEP: model_step(twin, records[place].number); break;
+        case OORLICHDAY_GET: get(twin, records[place].number); break;
+        case OORLICHDAY_SET: set(twin, records[place].number); break;
+        default: break;
+        }
 }
 
 void twin_start(struct twin *twin)

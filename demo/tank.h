@@ -1,9 +1,8 @@
-/* The reef tank of the demonstration: its packed table, the names of its calls, its twin. */
+/* The reef tank of the demonstration: its packed table, its schedule, the names of its calls, its twin. */
 #ifndef TANK_H
 #define TANK_H
 
-#include <stddef.h>
-#include <stdint.h>
+#include "../include/oorlichday.h"
 
 enum { UNITS = 6, OUTPUTS = 7, INPUTS = 8, FEEDS = 2, CALLS = UNITS + OUTPUTS + INPUTS };
 
@@ -26,10 +25,14 @@ struct twin {
 extern const uint8_t tank_table[4 + OUTPUTS + 3 * INPUTS + 2 * FEEDS];
 extern const char *const call_names[CALLS];
 
+/* The firmware's own schedule of one step. */
+extern const struct oorlichday_record tank_schedule[CALLS];
+
 /* Everything at midnight, joined ports equal. */
 void twin_start(struct twin *twin);
 
-/* One step of a minute by the given calls. */
+/* One step of a minute by the given calls, or by a schedule. */
 void twin_run(struct twin *twin, const uint8_t *calls, size_t count);
+void twin_run_schedule(struct twin *twin, const struct oorlichday_record *records, size_t count);
 
 #endif

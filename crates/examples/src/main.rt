@@ -6,6 +6,8 @@ ghost use lib.ListN.{length};
 use table::Answer;
 use table::check::check;
 
+mod records;
+
 // Writes the front of a line to standard output.
 fn write_front(line: &[u8], at: usize) {
     if at <= line.len() {
@@ -88,4 +90,5 @@ fn main() {
     checked();
     ordered();
     judged();
+    records::judged();
 }

@@ -1,4 +1,4 @@
-// What the C firmware calls: the check, the order and the verdict on byte buffers.
+// What the C firmware calls: the check, the order and the verdict on byte buffers, and the verdict on its schedule.
 ghost use mathlib.Core.Path.{_≡_};
 ghost use Prim.Native.Nat.{_≤_};
 ghost use Rattle.table.specs.Check.{checked};
@@ -49,7 +49,11 @@ pub extern "C" fn oorlichday_verdict(table: &[u8], order: &[u8]) -> u32
 // Does the firmware's own schedule, a list of records, keep the rules?
 #[no_mangle]
 pub extern "C" fn oorlichday_verdict_of_records(table: &[u8], records: &[Record]) -> u32
-    ensures { λ r. ⌜ r ≡ coded (verdictOf (now (table .entry))
+    ensures { λ r.
+        ⌜ r
+        ≡ coded
+        (verdictOf
+        (now (table .entry))
         (allNumbered (shapeOf (now (table .entry))) (now (records .entry)))) ⌝ }
 {
     code(judge::records::verdict_of_records(table, records))
