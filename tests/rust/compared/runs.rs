@@ -8,7 +8,9 @@ use crate::support::rounds::{numbers, Tally};
 use crate::support::tables::{acyclic, counts, few};
 use crate::transcribed::library::{get_d, permutations, take};
 use crate::transcribed::table::{shape_of, total};
-use crate::transcribed::twin::{end, values, Ends, Held, Passed, Rules, Solves, World};
+use crate::transcribed::twin::{
+    end, values, AtTime, Ends, Held, Joined, Passed, Rules, Solves, World,
+};
 use std::rc::Rc;
 
 /// A number that depends on all that it is made of.
@@ -123,7 +125,9 @@ fn passed_orders_end_alike() {
         let (bytes, calls) = (table.packed(), numbers(&calls));
         let t = numbers(&bytes);
         let m = if round % 3 == 0 { adding() } else { mixing(random.next()) };
-        let w = world(&mut random, total(&shape_of(&t)), 1 << 40, 7);
+        let s = shape_of(&t);
+        let w = world(&mut random, total(&s), 1 << 40, 7);
+        assert!(AtTime(&s, 7, &w) && !AtTime(&s, 8, &w) && Joined(&s, &w) == (s.inputs == 0));
         let other = any_order(&mut random, &bytes);
         assert!(Passed(&t, &calls) && Passed(&t, &other), "{:?} and {:?} by {:?}", calls, other, t);
         let mut asked = vec![end_values(&t, &m, &w, &other)];
@@ -133,7 +137,14 @@ fn passed_orders_end_alike() {
             asked.push(near);
         }
         assert!(Ends(&t, &m, &calls, &w, 7, &asked), "{:?} by {:?}", calls, t);
-        assert_eq!(end_values(&t, &m, &w, &calls), asked[0], "{:?} by {:?}", calls, t);
+        let ends = [&calls, &other].map(|order| end(&t, &m, w.clone(), order));
+        assert!(
+            calls.iter().all(|&a| ends[0](a) == ends[1](a)),
+            "{:?} and {:?} by {:?}",
+            calls,
+            other,
+            t
+        );
         front_moved(&t, &m, &w, &calls, random.below(calls.len() + 1) as u64);
         tally.count(0);
     }

@@ -8,7 +8,7 @@ use crate::support::rounds::{deep, numbers, Tally};
 use crate::transcribed::calls::{precedes, Precedes};
 use crate::transcribed::demands::Given;
 use crate::transcribed::grammar::opening::lines_of;
-use crate::transcribed::grammar::reading::reading;
+use crate::transcribed::grammar::reading::{reading, stopped};
 use crate::transcribed::grammar::rows::{ascii, rows, word};
 use crate::transcribed::judging::{answer, verdict_from, verdict_of, Passes, Tells};
 use crate::transcribed::library::{permutations, take};
@@ -87,6 +87,8 @@ fn every_permutation() {
         let declared = |a, b| Precedes(&s, a, b);
         let given = ordering(&t, 7);
         assert!(OrderOrCycle(&t, given.answer, take(given.answer.place, &given.bytes)), "{:?}", t);
+        let other = answer(9 - given.answer.number, given.answer.place);
+        assert!(!OrderOrCycle(&t, other, take(given.answer.place, &given.bytes)), "{:?}", t);
         ordered.count(given.answer.number as usize);
         for order in &orders[total(&s) as usize] {
             let number = verdict_of(&t, order).number;
@@ -101,7 +103,8 @@ fn every_permutation() {
     tally.finish([0, 13, 14, 15, 16, 17], rounds / 400);
 }
 
-/// The number is 0 exactly when the list keeps the rules, else that of the first call whose conditions fail.
+/// The number is 0 exactly when the list keeps the rules, else that of the first call whose conditions fail;
+/// no other answer is told.
 #[test]
 fn verdict_tells() {
     let ((rounds, mut random), mut tally) = (fuzzing(85), Tally::new("verdicts told"));
@@ -115,7 +118,10 @@ fn verdict_tells() {
         let s = shape_of(&t);
         let given = verdict_from(&s, &none, &l, 0);
         let declared = |a, b| Precedes(&s, a, b);
-        assert!(Tells(&s, &none, &l, 0, given), "{:?} by {:?}", l, t);
+        let place = given.place;
+        for told in [answer(0, place), answer(18, place), answer(given.number, place + 1), given] {
+            assert_eq!(Tells(&s, &none, &l, 0, told), told == given, "{:?} by {:?}", l, t);
+        }
         assert_eq!(given.number == 0, Keeps(total(&s), &declared, &l), "{:?} by {:?}", l, t);
         assert_eq!(given.number == 0, Passes(&s, &none, &l), "{:?} by {:?}", l, t);
         tally.count(given.number as usize);
@@ -123,7 +129,8 @@ fn verdict_tells() {
     tally.finish([0].into_iter().chain(11..=18), rounds / 400);
 }
 
-/// A text that is read gives the sound table of its lines in line order; a refusal is at the line that is said.
+/// A text that is read gives the sound table of its lines in line order, and no other; a refusal is at the line
+/// that is said, and at no other.
 #[test]
 fn texts_by_their_lines() {
     deep(|| {
@@ -136,12 +143,16 @@ fn texts_by_their_lines() {
             tally.count(given.number as usize);
             if given.number != 0 {
                 assert!(Lined(&t, &given), "{}", shown(&text));
+                assert!(!Lined(&t, &stopped(given.number, given.place + 1)), "{}", shown(&text));
                 continue;
             }
             let fs = rows(&t);
             assert!(Sound(&given.bytes), "{}", shown(&text));
             assert_eq!(given.bytes, numbered(&fs), "{}", shown(&text));
             assert!(InOrder(&fs, &shape_of(&given.bytes)), "{}", shown(&text));
+            let mut other = given.bytes.clone();
+            other[round % given.bytes.len()] += 1;
+            assert!(!InOrder(&fs, &shape_of(&other)), "{}", shown(&text));
             own_numbers(&fs);
         }
         tally.finish([0].into_iter().chain(20..=34), rounds / 400);
