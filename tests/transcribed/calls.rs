@@ -11,7 +11,7 @@ use super::table::Shape;
 //|     Set(usize),
 //|     NoCall,
 //| }
-#[derive(Clone, Copy)]
+#[derive(Clone, Copy, Eq, Hash, PartialEq)]
 pub enum Call {
     Step(u64),
     Get(u64),

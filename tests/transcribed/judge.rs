@@ -1,8 +1,8 @@
-// The judged run, and records as call numbers.
+// The judged run, an order judged by it call by call, and records as call numbers.
 use super::calls::{get_no, set_no, step_no};
 use super::judging::refusal_at;
-use super::library::{cons, get_d, set};
-use super::table::{refusal, shape_of, total, Shape};
+use super::library::{cons, each, get_d, length, set, take};
+use super::table::{refusal, shape_of, total, Shape, Sound};
 
 // ---- crates/judge/src/lib.rt
 
@@ -74,6 +74,35 @@ pub fn taken(t: &[u64], run: &Run, c: u64) -> Taken {
         refusal(t)
     };
     advanced(run, c, number)
+}
+
+// ---- crates/judge/specs/CallByCall.antt
+
+//| abbrev pub runAfter : List ℕ → Run → List ℕ → Run
+//| runAfter t run [] = run
+//| runAfter t run (c ∷ l) = runAfter t (taken t run c .run) l
+pub fn run_after(t: &[u64], run: &Run, list: &[u64]) -> Run {
+    match list {
+        [] => run.clone(),
+        [c, l @ ..] => run_after(t, &taken(t, run, *c).run, l),
+    }
+}
+
+//| abbrev pub answeredAt : List ℕ → Run → List ℕ → ℕ → ℕ
+//| answeredAt t run l i = taken t (runAfter t run (take i l)) (getD l i 0) .number
+pub fn answered_at(t: &[u64], run: &Run, l: &[u64], i: u64) -> u64 {
+    taken(t, &run_after(t, run, take(i, l)), get_d(l, i, 0)).number
+}
+
+//| pub record TakenInTurn (t order : List ℕ) : Type 0 where
+//|   pub sound : Sound t
+//|   pub each : (i : ℕ) → i < length order → answeredAt t fresh order i ≡ 0
+//|   pub whole : length order ≡ total (shapeOf t)
+pub fn TakenInTurn(t: &[u64], order: &[u64]) -> bool {
+    let sound = Sound(t);
+    let each = each(length(order), &|i| answered_at(t, &fresh(), order, i) == 0);
+    let whole = length(order) == total(&shape_of(t));
+    sound && each && whole
 }
 
 // ---- crates/judge/specs/Records.antt

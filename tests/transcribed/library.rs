@@ -1,4 +1,7 @@
 // What the definitions take from the toolchain's library: lists, and all or some numbers below a bound.
+use std::cell::RefCell;
+use std::collections::HashMap;
+use std::hash::Hash;
 
 // ℕ → Bool
 pub type Test<'a> = &'a dyn Fn(u64) -> bool;
@@ -56,6 +59,19 @@ pub fn any(n: u64, test: Test) -> bool {
 // A → B, where B is asked only if A holds
 pub fn implies(a: bool, b: impl Fn() -> bool) -> bool {
     !a || b()
+}
+
+// the function itself, each of its answers computed once
+pub fn remembered<A: Copy + Eq + Hash, B: Clone>(f: impl Fn(A) -> B) -> impl Fn(A) -> B {
+    let known = RefCell::new(HashMap::new());
+    move |a| {
+        let before = known.borrow().get(&a).cloned();
+        before.unwrap_or_else(|| {
+            let b = f(a);
+            known.borrow_mut().insert(a, b.clone());
+            b
+        })
+    }
 }
 
 // every list of numbers below n that has no number twice; those of length n are the permutations

@@ -6,10 +6,10 @@
 // capital letter and answers whether it holds. What is evaluated only where it is needed is a closure.
 //
 // Not computed, or not of everything that is spoken of:
-// - `Determined` speaks of all pairs of answers and holds of any value, since equality is transitive.
+// - `SettlesSeen`, `Settles`, `Says`, `SettlesClauses` speak of a contract as the toolchain reads it.
 // - `First` speaks of all lists: only the permutations of the N calls can keep the rules, so these are asked.
-// - `OrderOrCycle` speaks of all lists: a cycle that has a call twice contains a shorter one, so the lists
-//   without repetition are asked.
+// - `OrderOrCycle` and `TellsOrder` speak of all lists: a cycle that has a call twice contains a shorter
+//   one, so the lists without repetition are asked.
 // - `Ends` speaks of all values: those that the caller gives are asked, all there are where values are few.
 #![allow(non_snake_case)]
 #![deny(dead_code)]

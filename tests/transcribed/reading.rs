@@ -156,7 +156,7 @@ pub fn InOrder(fs: &[Row], s: &Shape) -> bool {
     counts && output_owner && input_owner && input_kind && input_source && feed_input && feed_output
 }
 
-// ---- crates/reading/specs/Counted.antt
+// ---- crates/reading/specs/WhichLine.antt
 
 //| unfoldable pub lineCount : List ℕ → ℕ
 //| lineCount t =
@@ -168,8 +168,6 @@ pub fn line_count(t: &[u64]) -> u64 {
         times(LF, t) + 1
     }
 }
-
-// ---- crates/reading/specs/Refused.antt
 
 //| unfoldable pub refusals : Draft → ℕ → List Row → List ℕ
 //| refusals d k [] = []
@@ -183,8 +181,6 @@ pub fn refusals(d: &Draft, k: u64, rows: &[Row]) -> Vec<u64> {
         }
     }
 }
-
-// ---- crates/reading/specs/Lined.antt
 
 //| pub record Lined (t : List ℕ) (r : Reading) : Type 0 where
 //|   pub none : (r .place ≡ 0) ↔ ((r .number ≡ 20) ⊎ (r .number ≡ 34))

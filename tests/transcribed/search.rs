@@ -56,8 +56,36 @@ pub fn fronted(bytes: &[u64], out: &[u64]) -> Vec<u64> {
     append(bytes, drop(length(bytes), out))
 }
 
-// ---- crates/search/specs/Determined.antt
+// ---- crates/search/specs/Contracts.antt
 
-//| abbrev pub Determined : (A : Type 0) → A → Type 0
-//| Determined A value = (a b : A) → a ≡ value → b ≡ value → a ≡ b
+//| module _ {n : ℕ} (ps : List (PK n)) (r : RK n) where
+//|   abbrev pub SettlesSeen : In n ps → Out n ps r → {B : Lfts n → Type 0}
+//|       → ((κs : Lfts n) → resT r κs .Denot → B κs) → Type 0
+//|   SettlesSeen asked learnt see =
+//|       ((κs : Lfts n) (a : Dens κs ps) → asked κs a)
+//|       × ((κs : Lfts n) (a : Dens κs ps) (x y : resT r κs .Denot) (w v : Lasts (endedOf n ps r) κs a)
+//|       → learnt κs a x (atExit (endedOf n ps r) κs a w)
+//|       → learnt κs a y (atExit (endedOf n ps r) κs a v) → (see κs x ≡ see κs y) × (w ≡ v))
+// Not computed.
+
+//|   abbrev pub Settles : In n ps → Out n ps r → Type 0
+//|   Settles asked learnt = SettlesSeen asked learnt {B = λ κs. resT r κs .Denot} (λ κs x. x)
+// Not computed.
+
+//|   abbrev pub Says : Out n ps r
+//|       → ((κs : Lfts n) (a : Dens κs ps) → resT r κs .Denot → Lasts (endedOf n ps r) κs a → Type 0) → Type 0
+//|   Says learnt claim =
+//|       (κs : Lfts n) (a : Dens κs ps) (x : resT r κs .Denot) (w : Lasts (endedOf n ps r) κs a)
+//|       → learnt κs a x (atExit (endedOf n ps r) κs a w) → claim κs a x w
+// Not computed.
+
+//| abbrev pub SettlesClauses : (T : Ended) → ((m : World) → Clauses (m .𝓤) T) → Type 2
+//| SettlesClauses T clauses =
+//|     ((m : World) (κs : Lfts (T .signature .lifetimes)) (a : Args (T .signature) κs) (g : clauses m κs a .ghost)
+//|     → ent (m .𝓤) (emp (m .𝓤)) (clauses m κs a .requires g))
+//|     × ((m : World) (κs : Lfts (T .signature .lifetimes)) (a : Args (T .signature) κs) (g : clauses m κs a .ghost)
+//|     (x y : Res (T .signature) κs) (w v : Lasts T κs a)
+//|     → ent (m .𝓤)
+//|     (sep (m .𝓤) (clauses m κs a .ensures g x (atExit T κs a w)) (clauses m κs a .ensures g y (atExit T κs a v)))
+//|     (fact (m .𝓤) ((x ≡ y) × (w ≡ v))))
 // Not computed.

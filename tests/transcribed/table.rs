@@ -1,6 +1,7 @@
 // The packed table: its parts, what is sound, the check, an answer with the bytes it writes.
 use super::library::{drop, each, get_d, length, take};
 use super::search::{every, some};
+use std::rc::Rc;
 
 // ---- crates/table/src/lib.rt
 
@@ -27,17 +28,18 @@ pub struct Answer {
 //|   pub source : ℕ → ℕ
 //|   pub feedInput : ℕ → ℕ
 //|   pub feedOutput : ℕ → ℕ
+#[derive(Clone)]
 pub struct Shape<'a> {
     pub units: u64,
     pub outputs: u64,
     pub inputs: u64,
     pub feeds: u64,
-    pub output_owner: Box<dyn Fn(u64) -> u64 + 'a>,
-    pub input_owner: Box<dyn Fn(u64) -> u64 + 'a>,
-    pub kind: Box<dyn Fn(u64) -> u64 + 'a>,
-    pub source: Box<dyn Fn(u64) -> u64 + 'a>,
-    pub feed_input: Box<dyn Fn(u64) -> u64 + 'a>,
-    pub feed_output: Box<dyn Fn(u64) -> u64 + 'a>,
+    pub output_owner: Rc<dyn Fn(u64) -> u64 + 'a>,
+    pub input_owner: Rc<dyn Fn(u64) -> u64 + 'a>,
+    pub kind: Rc<dyn Fn(u64) -> u64 + 'a>,
+    pub source: Rc<dyn Fn(u64) -> u64 + 'a>,
+    pub feed_input: Rc<dyn Fn(u64) -> u64 + 'a>,
+    pub feed_output: Rc<dyn Fn(u64) -> u64 + 'a>,
 }
 
 //| abbrev pub total : Shape → ℕ
@@ -177,12 +179,12 @@ pub fn shape_of(t: &[u64]) -> Shape<'_> {
         outputs: outputs(t),
         inputs: inputs(t),
         feeds: feeds(t),
-        output_owner: Box::new(move |y| get_d(output_owners(t), y, 0)),
-        input_owner: Box::new(move |x| get_d(input_owners(t), x, 0)),
-        kind: Box::new(move |x| get_d(kinds(t), x, 0)),
-        source: Box::new(move |x| get_d(sources(t), x, 0)),
-        feed_input: Box::new(move |k| pair_input(pairs(t), k)),
-        feed_output: Box::new(move |k| pair_output(pairs(t), k)),
+        output_owner: Rc::new(move |y| get_d(output_owners(t), y, 0)),
+        input_owner: Rc::new(move |x| get_d(input_owners(t), x, 0)),
+        kind: Rc::new(move |x| get_d(kinds(t), x, 0)),
+        source: Rc::new(move |x| get_d(sources(t), x, 0)),
+        feed_input: Rc::new(move |k| pair_input(pairs(t), k)),
+        feed_output: Rc::new(move |k| pair_output(pairs(t), k)),
     }
 }
 

@@ -1,17 +1,18 @@
-// The rules of models, the run of an order with values, the equations, demand 3.
+// The rules of models, the run of an order with states and values, the equations, demand 3.
 use super::calls::Call::{self, Get, NoCall, Set, Step};
-use super::calls::{call_of, feeds_to, get_no, set_no, step_no};
+use super::calls::{by_kind, call_of, feeds_to};
 use super::judging::verdict_of;
-use super::library::{any, cons, each, get_d, implies, length, Test};
+use super::library::{any, cons, each, get_d, implies, length, remembered, Test};
+use super::search::none;
 use super::table::{shape_of, total, Shape};
 use std::rc::Rc;
 
 // ---- crates/twin/specs/Rules.antt
 
-//| unfoldable pub pick : {Val : Type 0} → (ℕ → Bool) → ℕ → ℕ → (ℕ → Val) → List Val
+//| unfoldable pub pick : {Value : Type 0} → (ℕ → Bool) → ℕ → ℕ → (ℕ → Value) → List Value
 //| pick q zero k value = []
 //| pick q (suc n) k value = cond (q k) (value k ∷ pick q n (suc k) value) (pick q n (suc k) value)
-pub fn pick<Val>(q: Test, n: u64, k: u64, value: &dyn Fn(u64) -> Val) -> Vec<Val> {
+pub fn pick<Value>(q: Test, n: u64, k: u64, value: &dyn Fn(u64) -> Value) -> Vec<Value> {
     match n {
         0 => vec![],
         _ => {
@@ -24,90 +25,141 @@ pub fn pick<Val>(q: Test, n: u64, k: u64, value: &dyn Fn(u64) -> Val) -> Vec<Val
     }
 }
 
-//| abbrev pub ofUnit : {Val : Type 0} → Shape → ℕ → (ℕ → Val) → List Val
+//| abbrev pub ofUnit : {Value : Type 0} → Shape → ℕ → (ℕ → Value) → List Value
 //| ofUnit s u value = pick (λ x. eqb (s .inputOwner x) u) (s .inputs) 0 value
-pub fn of_unit<Val>(s: &Shape, u: u64, value: &dyn Fn(u64) -> Val) -> Vec<Val> {
+pub fn of_unit<Value>(s: &Shape, u: u64, value: &dyn Fn(u64) -> Value) -> Vec<Value> {
     pick(&|x| (s.input_owner)(x) == u, s.inputs, 0, value)
 }
 
-//| abbrev pub feeding : {Val : Type 0} → Shape → ℕ → (ℕ → Val) → List Val
+//| abbrev pub feeding : {Value : Type 0} → Shape → ℕ → (ℕ → Value) → List Value
 //| feeding s y value = pick (λ x. feedsTo s x y) (s .inputs) 0 value
-pub fn feeding<Val>(s: &Shape, y: u64, value: &dyn Fn(u64) -> Val) -> Vec<Val> {
+pub fn feeding<Value>(s: &Shape, y: u64, value: &dyn Fn(u64) -> Value) -> Vec<Value> {
     pick(&|x| feeds_to(s, x, y), s.inputs, 0, value)
 }
 
-//| pub record Rules (Val : Type 0) : Type 0 where
-//|   pub stepRule : ℕ → Val → List Val → Val
-//|   pub outputRule : ℕ → Val → List Val → Val
-pub struct Rules<Val> {
-    pub step_rule: Box<dyn Fn(u64, Val, &[Val]) -> Val>,
-    pub output_rule: Box<dyn Fn(u64, Val, &[Val]) -> Val>,
+//| pub record Rules (State Value : Type 0) : Type 0 where
+//|   pub stepRule : ℕ → State → List Value → State
+//|   pub outputRule : ℕ → State → List Value → Value
+#[derive(Clone)]
+pub struct Rules<State, Value> {
+    pub step_rule: Rc<dyn Fn(u64, State, &[Value]) -> State>,
+    pub output_rule: Rc<dyn Fn(u64, State, &[Value]) -> Value>,
 }
 
 // ---- crates/twin/specs/Run.antt
 
-//| pub record Held (Val : Type 0) : Type 0 where
-//|   pub value : Val
-//|   pub time : ℕ
+//| abbrev pub At : Type 0 → Type 0 → Call → Type 0
+//| At State Value (Step u) = State
+//| At State Value (Get y) = Value
+//| At State Value (Set x) = Value
+//| At State Value NoCall = Unit {0}
+// A type cannot depend on a call here: one of the three, and which one is asked by `state` and `value`.
 #[derive(Clone, Debug, PartialEq)]
-pub struct Held<Val> {
-    pub value: Val,
-    pub time: u64,
+pub enum At<State, Value> {
+    State(State),
+    Value(Value),
+    Nothing,
 }
 
-//| abbrev pub World : Type 0 → Type 0
-//| World Val = ℕ → Held Val
-pub type World<Val> = Rc<dyn Fn(u64) -> Held<Val>>;
+impl<State, Value> At<State, Value> {
+    pub fn state(self) -> State {
+        match self {
+            At::State(state) => state,
+            _ => panic!("a step has a state"),
+        }
+    }
 
-//| abbrev pub moved : {Val : Type 0} → World Val → ℕ → Val → World Val
-//| moved w a v b = cond (eqb b a) (record { value = v; time = suc (w a .time) }) (w b)
-pub fn moved<Val: Clone + 'static>(w: World<Val>, a: u64, v: Val) -> World<Val> {
-    Rc::new(move |b| if b == a { Held { value: v.clone(), time: w(a).time + 1 } } else { w(b) })
-}
-
-//| module _ {Val : Type 0} (s : Shape) (m : Rules Val) where
-//|   abbrev pub acts : World Val → Call → World Val
-//|   acts w (Step u) =
-//|       moved w (stepNo u) (m .stepRule u (w (stepNo u) .value) (ofUnit s u (λ x. w (setNo s x) .value)))
-//|   acts w (Get y) =
-//|       moved w (getNo s y)
-//|       (m .outputRule y (w (stepNo (s .outputOwner y)) .value) (feeding s y (λ x. w (setNo s x) .value)))
-//|   acts w (Set x) = moved w (setNo s x) (w (getNo s (s .source x)) .value)
-//|   acts w NoCall = w
-pub fn acts<Val: Clone + 'static>(
-    s: &Shape,
-    m: &Rules<Val>,
-    w: World<Val>,
-    call: Call,
-) -> World<Val> {
-    let input = |x| w(set_no(s, x)).value;
-    match call {
-        Step(u) => {
-            let v = (m.step_rule)(u, w(step_no(u)).value, &of_unit(s, u, &input));
-            moved(w, step_no(u), v)
+    pub fn value(self) -> Value {
+        match self {
+            At::Value(value) => value,
+            _ => panic!("a get or a set has a value"),
         }
-        Get(y) => {
-            let state = w(step_no((s.output_owner)(y))).value;
-            let v = (m.output_rule)(y, state, &feeding(s, y, &input));
-            moved(w, get_no(s, y), v)
-        }
-        Set(x) => {
-            let v = w(get_no(s, (s.source)(x))).value;
-            moved(w, set_no(s, x), v)
-        }
-        NoCall => w,
     }
 }
 
-//|   unfoldable pub run : World Val → List ℕ → World Val
+//| abbrev pub Values : Type 0 → Type 0 → Type 0
+//| Values State Value = (k : Call) → At State Value k
+pub type Values<'a, State, Value> = Rc<dyn Fn(Call) -> At<State, Value> + 'a>;
+
+//| pub record Held (A : Type 0) : Type 0 where
+//|   pub value : A
+//|   pub time : ℕ
+#[derive(Clone, Debug, PartialEq)]
+pub struct Held<A> {
+    pub value: A,
+    pub time: u64,
+}
+
+//| abbrev pub World : Type 0 → Type 0 → Type 0
+//| World State Value = (k : Call) → Held (At State Value k)
+pub type World<'a, State, Value> = Rc<dyn Fn(Call) -> Held<At<State, Value>> + 'a>;
+
+//| unfoldable pub moves : Call → Call → Bool
+//| moves (Step u) = byKind (λ v. eqb v u) none none
+//| moves (Get y) = byKind none (λ z. eqb z y) none
+//| moves (Set x) = byKind none none (λ z. eqb z x)
+//| moves NoCall = λ k. false
+pub fn moves(c: Call, k: Call) -> bool {
+    match c {
+        Step(u) => by_kind(&|v| v == u, &none, &none, k),
+        Get(y) => by_kind(&none, &|z| z == y, &none, k),
+        Set(x) => by_kind(&none, &none, &|z| z == x, k),
+        NoCall => false,
+    }
+}
+
+//| module _ {State Value : Type 0} (s : Shape) (m : Rules State Value) where
+//|   abbrev pub gives : World State Value → Values State Value
+//|   gives w (Step u) = m .stepRule u (w (Step u) .value) (ofUnit s u (λ x. w (Set x) .value))
+//|   gives w (Get y) = m .outputRule y (w (Step (s .outputOwner y)) .value) (feeding s y (λ x. w (Set x) .value))
+//|   gives w (Set x) = w (Get (s .source x)) .value
+//|   gives w NoCall = tt
+pub fn gives<State, Value>(
+    s: &Shape,
+    m: &Rules<State, Value>,
+    w: &World<State, Value>,
+    k: Call,
+) -> At<State, Value> {
+    let state = |u| w(Step(u)).value.state();
+    let input = |x| w(Set(x)).value.value();
+    match k {
+        Step(u) => At::State((m.step_rule)(u, state(u), &of_unit(s, u, &input))),
+        Get(y) => {
+            let owner = (s.output_owner)(y);
+            At::Value((m.output_rule)(y, state(owner), &feeding(s, y, &input)))
+        }
+        Set(x) => At::Value(w(Get((s.source)(x))).value.value()),
+        NoCall => At::Nothing,
+    }
+}
+
+//|   abbrev pub acts : World State Value → Call → World State Value
+//|   acts w c k = cond (moves c k) (record { value = gives w k; time = suc (w k .time) }) (w k)
+pub fn acts<'a, State: Clone + 'a, Value: Clone + 'a>(
+    s: &Shape<'a>,
+    m: &Rules<State, Value>,
+    w: World<'a, State, Value>,
+    c: Call,
+) -> World<'a, State, Value> {
+    let (s, m) = (s.clone(), m.clone());
+    Rc::new(remembered(move |k| {
+        if moves(c, k) {
+            Held { value: gives(&s, &m, &w, k), time: w(k).time + 1 }
+        } else {
+            w(k)
+        }
+    }))
+}
+
+//|   unfoldable pub run : World State Value → List ℕ → World State Value
 //|   run w [] = w
 //|   run w (c ∷ l) = run (acts w (callOf s c)) l
-pub fn run<Val: Clone + 'static>(
-    s: &Shape,
-    m: &Rules<Val>,
-    w: World<Val>,
+pub fn run<'a, State: Clone + 'a, Value: Clone + 'a>(
+    s: &Shape<'a>,
+    m: &Rules<State, Value>,
+    w: World<'a, State, Value>,
     list: &[u64],
-) -> World<Val> {
+) -> World<'a, State, Value> {
     match list {
         [] => w,
         [c, l @ ..] => run(s, m, acts(s, m, w, call_of(s, *c)), l),
@@ -116,53 +168,54 @@ pub fn run<Val: Clone + 'static>(
 
 // ---- crates/twin/specs/Equations.antt
 
-//| module _ {Val : Type 0} (s : Shape) (m : Rules Val) where
-//|   pub record Solves (old new : ℕ → Val) : Type 0 where
+//| module _ {State Value : Type 0} (s : Shape) (m : Rules State Value) where
+//|   pub record Solves (old new : Values State Value) : Type 0 where
 //|     pub states : (u : ℕ) → u < s .units
-//|         → new (stepNo u)
-//|         ≡ m .stepRule u (old (stepNo u))
-//|           (ofUnit s u (λ x. cond (eqb (s .kind x) 0) (old (setNo s x)) (new (setNo s x))))
+//|         → new (Step u)
+//|         ≡ m .stepRule u (old (Step u)) (ofUnit s u (λ x. cond (eqb (s .kind x) 0) (old (Set x)) (new (Set x))))
 //|     pub outputs : (y : ℕ) → y < s .outputs
-//|         → new (getNo s y)
-//|         ≡ m .outputRule y (new (stepNo (s .outputOwner y))) (feeding s y (λ x. new (setNo s x)))
-//|     pub inputs : (x : ℕ) → x < s .inputs → new (setNo s x) ≡ new (getNo s (s .source x))
-pub fn Solves<Val: Clone + PartialEq>(
+//|         → new (Get y) ≡ m .outputRule y (new (Step (s .outputOwner y))) (feeding s y (λ x. new (Set x)))
+//|     pub inputs : (x : ℕ) → x < s .inputs → new (Set x) ≡ new (Get (s .source x))
+pub fn Solves<State: PartialEq, Value: PartialEq>(
     s: &Shape,
-    m: &Rules<Val>,
-    old: &dyn Fn(u64) -> Val,
-    new: &dyn Fn(u64) -> Val,
+    m: &Rules<State, Value>,
+    old: &Values<State, Value>,
+    new: &Values<State, Value>,
 ) -> bool {
-    let seen = |x| if (s.kind)(x) == 0 { old(set_no(s, x)) } else { new(set_no(s, x)) };
+    let seen = |x| if (s.kind)(x) == 0 { old(Set(x)).value() } else { new(Set(x)).value() };
     let states = each(s.units, &|u| {
-        new(step_no(u)) == (m.step_rule)(u, old(step_no(u)), &of_unit(s, u, &seen))
+        let state = old(Step(u)).state();
+        new(Step(u)).state() == (m.step_rule)(u, state, &of_unit(s, u, &seen))
     });
     let outputs = each(s.outputs, &|y| {
-        let state = new(step_no((s.output_owner)(y)));
-        new(get_no(s, y)) == (m.output_rule)(y, state, &feeding(s, y, &|x| new(set_no(s, x))))
+        let state = new(Step((s.output_owner)(y))).state();
+        let fed = feeding(s, y, &|x| new(Set(x)).value());
+        new(Get(y)).value() == (m.output_rule)(y, state, &fed)
     });
-    let inputs = each(s.inputs, &|x| new(set_no(s, x)) == new(get_no(s, (s.source)(x))));
+    let inputs = each(s.inputs, &|x| new(Set(x)).value() == new(Get((s.source)(x))).value());
     states && outputs && inputs
 }
 
-//| module _ {Val : Type 0} (s : Shape) where
-//|   abbrev pub AtTime : ℕ → World Val → Type 0
-//|   AtTime n w = (a : ℕ) → a < total s → w a .time ≡ n
-pub fn AtTime<Val>(s: &Shape, n: u64, w: &World<Val>) -> bool {
-    each(total(s), &|a| w(a).time == n)
+//| module _ {State Value : Type 0} (s : Shape) where
+//|   abbrev pub AtTime : ℕ → World State Value → Type 0
+//|   AtTime n w = (a : ℕ) → a < total s → w (callOf s a) .time ≡ n
+pub fn AtTime<State, Value>(s: &Shape, n: u64, w: &World<State, Value>) -> bool {
+    each(total(s), &|a| w(call_of(s, a)).time == n)
 }
 
-//|   abbrev pub Joined : World Val → Type 0
-//|   Joined w = (x : ℕ) → x < s .inputs → w (setNo s x) ≡ w (getNo s (s .source x))
-pub fn Joined<Val: PartialEq>(s: &Shape, w: &World<Val>) -> bool {
-    each(s.inputs, &|x| w(set_no(s, x)) == w(get_no(s, (s.source)(x))))
+//|   abbrev pub Joined : World State Value → Type 0
+//|   Joined w = (x : ℕ) → x < s .inputs → w (Set x) ≡ w (Get (s .source x))
+pub fn Joined<State: PartialEq, Value: PartialEq>(s: &Shape, w: &World<State, Value>) -> bool {
+    each(s.inputs, &|x| w(Set(x)) == w(Get((s.source)(x))))
 }
 
 // ---- crates/twin/specs/Demand.antt
 
-//| abbrev pub values : {Val : Type 0} → World Val → ℕ → Val
-//| values w a = w a .value
-pub fn values<Val>(w: &World<Val>, a: u64) -> Val {
-    w(a).value
+//| abbrev pub values : {State Value : Type 0} → World State Value → Values State Value
+//| values w k = w k .value
+pub fn values<'a, State: 'a, Value: 'a>(w: &World<'a, State, Value>) -> Values<'a, State, Value> {
+    let w = w.clone();
+    Rc::new(move |k| w(k).value)
 }
 
 //| abbrev pub Passed : List ℕ → List ℕ → Type 0
@@ -171,41 +224,40 @@ pub fn Passed(t: &[u64], order: &[u64]) -> bool {
     verdict_of(t, order).number == 0
 }
 
-//| module _ {Val : Type 0} (t : List ℕ) (m : Rules Val) where
-//|   abbrev pub end : World Val → List ℕ → World Val
+//| module _ {State Value : Type 0} (t : List ℕ) (m : Rules State Value) where
+//|   abbrev pub end : World State Value → List ℕ → World State Value
 //|   end = run (shapeOf t) m
-pub fn end<Val: Clone + 'static>(
-    t: &[u64],
-    m: &Rules<Val>,
-    w: World<Val>,
+pub fn end<'a, State: Clone + 'a, Value: Clone + 'a>(
+    t: &'a [u64],
+    m: &Rules<State, Value>,
+    w: World<'a, State, Value>,
     list: &[u64],
-) -> World<Val> {
+) -> World<'a, State, Value> {
     run(&shape_of(t), m, w, list)
 }
 
 // ---- crates/twin/specs/Integers.antt
 
-//| pub record Ends (t : List ℕ) (m : Rules ℤ) (order : List ℕ) (w : World ℤ) (n : ℕ) : Type 0 where
+//| pub record Ends (t : List ℕ) (m : Rules ℤ ℤ) (order : List ℕ) (w : World ℤ ℤ) (n : ℕ) : Type 0 where
 //|   pub one-later : AtTime (shapeOf t) (suc n) (run (shapeOf t) m w order)
 //|   pub moved-once : (a : ℕ) → a < total (shapeOf t)
 //|       → (i : ℕ) × (i < length order) × (getD order i 0 ≡ a)
 //|       × ((j : ℕ) → j < length order → getD order j 0 ≡ a → j ≡ i)
 //|   pub joined : Joined (shapeOf t) (run (shapeOf t) m w order)
 //|   pub solves : Solves (shapeOf t) m (values w) (values (run (shapeOf t) m w order))
-//|   pub single : (new : ℕ → ℤ) → Solves (shapeOf t) m (values w) new → (a : ℕ) → a < total (shapeOf t)
-//|       → values (run (shapeOf t) m w order) a ≡ new a
-// `asked` are the `new` of which `single` is asked, each a list of N values.
-pub fn Ends<Val: Clone + PartialEq + 'static>(
-    t: &[u64],
-    m: &Rules<Val>,
+//|   pub single : (new : Values ℤ ℤ) → Solves (shapeOf t) m (values w) new → (a : ℕ) → a < total (shapeOf t)
+//|       → values (run (shapeOf t) m w order) (callOf (shapeOf t) a) ≡ new (callOf (shapeOf t) a)
+// `asked` are the `new` of which `single` is asked.
+pub fn Ends<'a, State: Clone + PartialEq + 'a, Value: Clone + PartialEq + 'a>(
+    t: &'a [u64],
+    m: &Rules<State, Value>,
     order: &[u64],
-    w: &World<Val>,
+    w: &World<'a, State, Value>,
     n: u64,
-    asked: &[Vec<Val>],
+    asked: &[Values<State, Value>],
 ) -> bool {
     let s = shape_of(t);
     let end = run(&s, m, w.clone(), order);
-    let (old, new) = (|a| values(w, a), |a| values(&end, a));
     let at = |i| get_d(order, i, 0);
     let one_later = AtTime(&s, n + 1, &end);
     let moved_once = each(total(&s), &|a| {
@@ -214,10 +266,10 @@ pub fn Ends<Val: Clone + PartialEq + 'static>(
         })
     });
     let joined = Joined(&s, &end);
-    let solves = Solves(&s, m, &old, &new);
-    let single = asked.iter().all(|other| {
-        implies(Solves(&s, m, &old, &|a| other[a as usize].clone()), || {
-            each(total(&s), &|a| new(a) == other[a as usize])
+    let solves = Solves(&s, m, &values(w), &values(&end));
+    let single = asked.iter().all(|new| {
+        implies(Solves(&s, m, &values(w), new), || {
+            each(total(&s), &|a| values(&end)(call_of(&s, a)) == new(call_of(&s, a)))
         })
     });
     one_later && moved_once && joined && solves && single

@@ -1,4 +1,5 @@
-//! Demand 3, tried: runs of orders with values end at the one solution of the equations.
+//! Demand 3, tried: runs of orders, with states of one type and values of another, end at the one solution of the
+//! equations.
 
 use super::makers::tiny;
 use crate::reference::order::order;
@@ -6,55 +7,93 @@ use crate::support::fuzz::fuzzing;
 use crate::support::random::Random;
 use crate::support::rounds::{numbers, Tally};
 use crate::support::tables::{acyclic, counts, few};
+use crate::transcribed::calls::Call::{Get, NoCall, Set, Step};
+use crate::transcribed::calls::{call_of, get_no, set_no, step_no};
 use crate::transcribed::library::{get_d, permutations, take};
-use crate::transcribed::table::{shape_of, total};
+use crate::transcribed::table::{shape_of, total, Shape};
 use crate::transcribed::twin::{
-    end, values, AtTime, Ends, Held, Joined, Passed, Rules, Solves, World,
+    self, end, values, AtTime, Ends, Held, Joined, Passed, Rules as Models, Solves, World as Holding,
 };
 use std::rc::Rc;
 
+/// States are wider than values.
+type At = twin::At<i128, i64>;
+type Rules = Models<i128, i64>;
+type Values<'a> = twin::Values<'a, i128, i64>;
+type World<'a> = Holding<'a, i128, i64>;
+
 /// A number that depends on all that it is made of.
-fn mixed(seed: u64, number: u64, state: i64, inputs: &[i64]) -> i64 {
-    let parts = [seed, number, state as u64].into_iter().chain(inputs.iter().map(|&v| v as u64));
+fn mixed(seed: u64, number: u64, state: i128, inputs: &[i64]) -> i64 {
+    let state = [state as u64, (state >> 64) as u64];
+    let inputs_seen = inputs.iter().map(|&v| v as u64);
+    let parts = [seed, number].into_iter().chain(state).chain(inputs_seen);
     parts.fold(inputs.len() as u64, |sum, part| {
         Random::new(sum.wrapping_mul(31).wrapping_add(part)).next()
     }) as i64
 }
 
 /// Rules that show all they see.
-fn mixing(seed: u64) -> Rules<i64> {
+fn mixing(seed: u64) -> Rules {
+    let part = move |low, u, state, inputs: &[i64]| mixed(seed ^ low, u, state, inputs) as i128;
     Rules {
-        step_rule: Box::new(move |u, state, inputs| mixed(seed, u, state, inputs)),
-        output_rule: Box::new(move |y, state, inputs| mixed(!seed, y, state, inputs)),
+        step_rule: Rc::new(move |u, state, inputs| {
+            part(0, u, state, inputs) << 64 ^ part(1, u, state, inputs)
+        }),
+        output_rule: Rc::new(move |y, state, inputs| mixed(!seed, y, state, inputs)),
     }
 }
 
 /// A unit adds its inputs to its state, an output adds its feeding inputs to it.
-fn adding() -> Rules<i64> {
-    let sum =
-        |_, state: i64, inputs: &[i64]| inputs.iter().fold(state, |sum, v| sum.wrapping_add(*v));
-    Rules { step_rule: Box::new(sum), output_rule: Box::new(sum) }
-}
-
-/// Rules on the numbers 0 to 2.
-fn small(seed: u64) -> Rules<i64> {
-    let least = |number: i64| number.rem_euclid(3);
+fn adding() -> Rules {
+    let sum = |state: i128, inputs: &[i64]| {
+        inputs.iter().fold(state, |sum, v| sum.wrapping_add(i128::from(*v)))
+    };
     Rules {
-        step_rule: Box::new(move |u, state, inputs| least(mixed(seed, u, state, inputs))),
-        output_rule: Box::new(move |y, state, inputs| least(mixed(!seed, y, state, inputs))),
+        step_rule: Rc::new(move |_, state, inputs| sum(state, inputs)),
+        output_rule: Rc::new(move |_, state, inputs| sum(state, inputs) as i64),
     }
 }
 
+/// Rules on the numbers 0 to 2.
+fn small(seed: u64) -> Rules {
+    let least = |number: i64| number.rem_euclid(3);
+    Rules {
+        step_rule: Rc::new(move |u, state, inputs| least(mixed(seed, u, state, inputs)).into()),
+        output_rule: Rc::new(move |y, state, inputs| least(mixed(!seed, y, state, inputs))),
+    }
+}
+
+/// The number as what belongs to a call: a unit's state or a port's value.
+fn belonging(s: &Shape, a: u64, number: i64) -> At {
+    match call_of(s, a) {
+        Step(_) => At::State(number.into()),
+        Get(_) | Set(_) => At::Value(number),
+        NoCall => At::Nothing,
+    }
+}
+
+/// A list of what belongs to each call, by its number, as the definitions take it.
+fn by_call<'a>(s: &Shape<'a>, list: Vec<At>) -> Values<'a> {
+    let s = s.clone();
+    Rc::new(move |k| match k {
+        Step(u) => get_d(&list, step_no(u), At::Nothing),
+        Get(y) => get_d(&list, get_no(&s, y), At::Nothing),
+        Set(x) => get_d(&list, set_no(&s, x), At::Nothing),
+        NoCall => At::Nothing,
+    })
+}
+
 /// All at one time with any values below the bound; joined ports need not be equal.
-fn world(random: &mut Random, count: u64, bound: usize, time: u64) -> World<i64> {
-    let held: Vec<i64> = (0..count).map(|_| random.below(bound) as i64).collect();
-    Rc::new(move |a| Held { value: get_d(&held, a, 0), time })
+fn world<'a>(random: &mut Random, s: &Shape<'a>, bound: usize, time: u64) -> World<'a> {
+    let held = (0..total(s)).map(|a| belonging(s, a, random.below(bound) as i64)).collect();
+    let held = by_call(s, held);
+    Rc::new(move |k| Held { value: held(k), time })
 }
 
 /// The values at the end of a run, number by number.
-fn end_values(t: &[u64], m: &Rules<i64>, w: &World<i64>, order: &[u64]) -> Vec<i64> {
-    let end = end(t, m, w.clone(), order);
-    (0..total(&shape_of(t))).map(|a| values(&end, a)).collect()
+fn end_values<'a>(t: &'a [u64], m: &Rules, w: &World<'a>, order: &[u64]) -> Vec<At> {
+    let (s, end) = (shape_of(t), values(&end(t, m, w.clone(), order)));
+    (0..total(&s)).map(|a| end(call_of(&s, a))).collect()
 }
 
 /// Every list of `count` numbers below 3.
@@ -84,10 +123,10 @@ fn passed_exactly_when_solved() {
     for _ in 0..rounds / 60 {
         let t = numbers(&tiny(&mut random, 6).packed());
         let (s, m) = (shape_of(&t), mixing(random.next()));
-        let w = world(&mut random, total(&s), 1 << 40, 0);
+        let w = world(&mut random, &s, 1 << 40, 0);
         for order in permutations(total(&s)) {
             let end = end(&t, &m, w.clone(), &order);
-            let solves = Solves(&s, &m, &|a| values(&w, a), &|a| values(&end, a));
+            let solves = Solves(&s, &m, &values(&w), &values(&end));
             assert_eq!(Passed(&t, &order), solves, "{:?} by {:?}", order, t);
             tally.count(!solves as usize);
         }
@@ -106,10 +145,13 @@ fn single_among_all_values() {
             continue;
         }
         let (t, m) = (numbers(&bytes), small(random.next()));
-        let count = total(&shape_of(&t));
-        let w = world(&mut random, count, 3, round as u64);
+        let s = shape_of(&t);
+        let w = world(&mut random, &s, 3, round as u64);
         let order = any_order(&mut random, &bytes);
-        assert!(Ends(&t, &m, &order, &w, round as u64, &asked[count as usize]), "{:?}", t);
+        let belong = |list: &Vec<i64>| (0..).zip(list).map(|(a, &v)| belonging(&s, a, v)).collect();
+        let asked = &asked[total(&s) as usize];
+        let asked: Vec<Values> = asked.iter().map(|list| by_call(&s, belong(list))).collect();
+        assert!(Ends(&t, &m, &order, &w, round as u64, &asked), "{:?}", t);
         tally.count(0);
     }
     tally.finish([0], rounds / 400);
@@ -126,35 +168,38 @@ fn passed_orders_end_alike() {
         let t = numbers(&bytes);
         let m = if round % 3 == 0 { adding() } else { mixing(random.next()) };
         let s = shape_of(&t);
-        let w = world(&mut random, total(&s), 1 << 40, 7);
+        let w = world(&mut random, &s, 1 << 40, 7);
         assert!(AtTime(&s, 7, &w) && !AtTime(&s, 8, &w) && Joined(&s, &w) == (s.inputs == 0));
         let other = any_order(&mut random, &bytes);
         assert!(Passed(&t, &calls) && Passed(&t, &other), "{:?} and {:?} by {:?}", calls, other, t);
         let mut asked = vec![end_values(&t, &m, &w, &other)];
         for place in [0, asked[0].len() - 1, random.below(asked[0].len())] {
             let mut near = asked[0].clone();
-            near[place] = near[place].wrapping_add(1);
+            near[place] = beside(&near[place]);
             asked.push(near);
         }
+        assert_eq!(end_values(&t, &m, &w, &calls), asked[0], "{:?} by {:?}", calls, t);
+        let asked: Vec<Values> = asked.into_iter().map(|list| by_call(&s, list)).collect();
         assert!(Ends(&t, &m, &calls, &w, 7, &asked), "{:?} by {:?}", calls, t);
-        let ends = [&calls, &other].map(|order| end(&t, &m, w.clone(), order));
-        assert!(
-            calls.iter().all(|&a| ends[0](a) == ends[1](a)),
-            "{:?} and {:?} by {:?}",
-            calls,
-            other,
-            t
-        );
         front_moved(&t, &m, &w, &calls, random.below(calls.len() + 1) as u64);
         tally.count(0);
     }
     tally.finish([0], rounds / 400);
 }
 
+/// A state or a value, and one more.
+fn beside(at: &At) -> At {
+    match at {
+        At::State(state) => At::State(state.wrapping_add(1)),
+        At::Value(value) => At::Value(value.wrapping_add(1)),
+        At::Nothing => At::Nothing,
+    }
+}
+
 /// After k calls exactly the units and ports whose calls stand there have moved, each by one step.
-fn front_moved(t: &[u64], m: &Rules<i64>, w: &World<i64>, order: &[u64], k: u64) {
-    let then = end(t, m, w.clone(), take(k, order));
-    for (place, &call) in order.iter().enumerate() {
+fn front_moved<'a>(t: &'a [u64], m: &Rules, w: &World<'a>, order: &[u64], k: u64) {
+    let (s, then) = (shape_of(t), end(t, m, w.clone(), take(k, order)));
+    for (place, call) in order.iter().map(|&call| call_of(&s, call)).enumerate() {
         if (place as u64) < k {
             assert_eq!(then(call).time, w(call).time + 1);
         } else {

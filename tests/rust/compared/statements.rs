@@ -1,4 +1,4 @@
-//! The statements that are proved of the definitions, tried: the check, precedence, demand 2, the text.
+//! The statements that are proved of the definitions, tried: the check, precedence, demand 2, runs, the text.
 
 use super::makers::{call_number, order_for, sound, table_bytes, text_bytes, tiny};
 use crate::reference::verdict::verdict;
@@ -6,17 +6,19 @@ use crate::support::calls::shown;
 use crate::support::fuzz::fuzzing;
 use crate::support::rounds::{deep, numbers, Tally};
 use crate::transcribed::calls::{precedes, Precedes};
-use crate::transcribed::demands::Given;
+use crate::transcribed::demands::{Given, TellsOrder};
+use crate::transcribed::firmware::coded;
 use crate::transcribed::grammar::opening::lines_of;
 use crate::transcribed::grammar::reading::{reading, stopped};
 use crate::transcribed::grammar::rows::{ascii, rows, word};
-use crate::transcribed::judging::{answer, verdict_from, verdict_of, Passes, Tells};
-use crate::transcribed::library::{permutations, take};
+use crate::transcribed::judge::{answered_at, fresh, TakenInTurn};
+use crate::transcribed::judging::{answer, at_end, verdict_from, verdict_of, Passes, Tells};
+use crate::transcribed::library::{length, permutations, take};
 use crate::transcribed::orders::{Keeps, Shown};
 use crate::transcribed::reading::{
     input_number, numbered, output_number, source_number, unit_number, InOrder, Lined,
 };
-use crate::transcribed::search::none;
+use crate::transcribed::search::{fronted, none};
 use crate::transcribed::sorter::{ordering, OrderOrCycle};
 use crate::transcribed::table::{checked, shape_of, total, Sound};
 
@@ -103,6 +105,28 @@ fn every_permutation() {
     tally.finish([0, 13, 14, 15, 16, 17], rounds / 400);
 }
 
+/// On small tables the number that C gets and the buffer it lent tell the first order or a cycle; others do not.
+#[test]
+fn order_told_to_c() {
+    let ((rounds, mut random), mut tally) = (fuzzing(87), Tally::new("orders told to C"));
+    for _ in 0..rounds / 20 {
+        let t = numbers(&tiny(&mut random, 6).packed());
+        let room = total(&shape_of(&t)) as usize + random.below(4);
+        let out = numbers(&random.bytes(room));
+        let given = ordering(&t, length(&out));
+        let (r, mut left) = (coded(given.answer), fronted(&given.bytes, &out));
+        assert!(TellsOrder(&t, r, &left), "{} and {:?} of {:?}", r, left, t);
+        let wrong = if Given(&t, length(&out)) { 256 * 9 + r } else { total(&shape_of(&t)) };
+        assert!(!TellsOrder(&t, wrong, &left), "{} and {:?} of {:?}", wrong, left, t);
+        if Given(&t, length(&out)) {
+            left[random.below(given.bytes.len())] ^= 1;
+            assert!(!TellsOrder(&t, r, &left), "{} and {:?} of {:?}", r, left, t);
+        }
+        tally.count(given.answer.number as usize);
+    }
+    tally.finish([0, 9], rounds / 400);
+}
+
 /// The number is 0 exactly when the list keeps the rules, else that of the first call whose conditions fail;
 /// no other answer is told.
 #[test]
@@ -127,6 +151,38 @@ fn verdict_tells() {
         tally.count(given.number as usize);
     }
     tally.finish([0].into_iter().chain(11..=18), rounds / 400);
+}
+
+/// A run takes a list call by call exactly when the list passes; the first call refused has the verdict's number
+/// and place. A call may be any number.
+#[test]
+fn taken_in_turn() {
+    let ((rounds, mut random), mut tally) = (fuzzing(88), Tally::new("lists taken call by call"));
+    assert!(!TakenInTurn(&[], &[]) && verdict_of(&[], &[]).number != 0);
+    for round in 0..rounds {
+        let (table, calls) = order_for(&mut random, round);
+        let other = round % 5 == 0;
+        let bytes = if other { table_bytes(&mut random, round / 5) } else { table.packed() };
+        let (t, mut l) = (numbers(&bytes), numbers(&calls));
+        // the calls before a place are put anew for each, so that long lists take long
+        if l.len() > 60 {
+            continue;
+        }
+        if !l.is_empty() && random.percent(20) {
+            let place = random.below(l.len());
+            l[place] = call_number(&mut random, &table) as u64;
+        }
+        let verdict = verdict_of(&t, &l);
+        assert_eq!(TakenInTurn(&t, &l), verdict.number == 0, "{:?} by {:?}", l, t);
+        let answered = |i| answered_at(&t, &fresh(), &l, i);
+        match (0..length(&l)).find(|&i| answered(i) != 0) {
+            Some(i) => assert_eq!(verdict, answer(answered(i), i), "{:?} by {:?}", l, t),
+            None if Sound(&t) => assert_eq!(verdict, at_end(&shape_of(&t), length(&l))),
+            None => assert!(l.is_empty()),
+        }
+        tally.count(verdict.number as usize);
+    }
+    tally.finish((0..=7).chain(11..=18), rounds / 400);
 }
 
 /// A text that is read gives the sound table of its lines in line order, and no other; a refusal is at the line
