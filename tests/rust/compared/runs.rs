@@ -10,14 +10,16 @@ use crate::transcribed::calls::Call::{Get, NoCall, Set, Step};
 use crate::transcribed::calls::{call_of, get_no, set_no, step_no};
 use crate::transcribed::library::{append, get_d, permutations, take};
 use crate::transcribed::table::{shape_of, total, Shape};
-use crate::transcribed::twin::{self, end, values, Ends, Held, Passed, Solves};
+use crate::transcribed::twin::{
+    self, end, values, Ends, Held, Passed, Rules as Models, Solves, World as Holding,
+};
 use std::rc::Rc;
 
 // States are wider than values, so that neither can stand for the other.
 type At = twin::At<i128, i64>;
-type Rules = twin::Rules<i128, i64>;
+type Rules = Models<i128, i64>;
 type Values<'a> = twin::Values<'a, i128, i64>;
-type World<'a> = twin::World<'a, i128, i64>;
+type World<'a> = Holding<'a, i128, i64>;
 
 /// A number that depends on all that it is made of.
 fn mixed(seed: u64, number: u64, state: i128, inputs: &[i64]) -> i64 {
