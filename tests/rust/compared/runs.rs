@@ -1,5 +1,4 @@
-//! Demand 3, tried: runs of orders, with states of one type and values of another, end at the one solution of the
-//! equations.
+//! Demand 3, tried: runs of orders with states and values end at the one solution of the equations.
 
 use super::makers::tiny;
 use crate::reference::order::order;
@@ -9,14 +8,14 @@ use crate::support::rounds::{numbers, Tally};
 use crate::support::tables::{acyclic, counts, few};
 use crate::transcribed::calls::Call::{Get, NoCall, Set, Step};
 use crate::transcribed::calls::{call_of, get_no, set_no, step_no};
-use crate::transcribed::library::{get_d, permutations, take};
+use crate::transcribed::library::{append, get_d, permutations, take};
 use crate::transcribed::table::{shape_of, total, Shape};
 use crate::transcribed::twin::{
     self, end, values, AtTime, Ends, Held, Joined, Passed, Rules as Models, Solves, World as Holding,
 };
 use std::rc::Rc;
 
-/// States are wider than values.
+// States are wider than values, so that neither can stand for the other.
 type At = twin::At<i128, i64>;
 type Rules = Models<i128, i64>;
 type Values<'a> = twin::Values<'a, i128, i64>;
@@ -25,8 +24,8 @@ type World<'a> = Holding<'a, i128, i64>;
 /// A number that depends on all that it is made of.
 fn mixed(seed: u64, number: u64, state: i128, inputs: &[i64]) -> i64 {
     let state = [state as u64, (state >> 64) as u64];
-    let inputs_seen = inputs.iter().map(|&v| v as u64);
-    let parts = [seed, number].into_iter().chain(state).chain(inputs_seen);
+    let seen = inputs.iter().map(|&v| v as u64);
+    let parts = [seed, number].into_iter().chain(state).chain(seen);
     parts.fold(inputs.len() as u64, |sum, part| {
         Random::new(sum.wrapping_mul(31).wrapping_add(part)).next()
     }) as i64
@@ -34,10 +33,10 @@ fn mixed(seed: u64, number: u64, state: i128, inputs: &[i64]) -> i64 {
 
 /// Rules that show all they see.
 fn mixing(seed: u64) -> Rules {
-    let part = move |low, u, state, inputs: &[i64]| mixed(seed ^ low, u, state, inputs) as i128;
+    let half = move |n, u, state, inputs: &[i64]| i128::from(mixed(seed ^ n, u, state, inputs));
     Rules {
         step_rule: Rc::new(move |u, state, inputs| {
-            part(0, u, state, inputs) << 64 ^ part(1, u, state, inputs)
+            half(0, u, state, inputs) << 64 ^ half(1, u, state, inputs)
         }),
         output_rule: Rc::new(move |y, state, inputs| mixed(!seed, y, state, inputs)),
     }
@@ -196,9 +195,11 @@ fn beside(at: &At) -> At {
     }
 }
 
-/// After k calls exactly the units and ports whose calls stand there have moved, each by one step.
+/// After k calls exactly the units and ports whose calls stand there have moved, each by one step; what is no call
+/// moves nothing.
 fn front_moved<'a>(t: &'a [u64], m: &Rules, w: &World<'a>, order: &[u64], k: u64) {
-    let (s, then) = (shape_of(t), end(t, m, w.clone(), take(k, order)));
+    let s = shape_of(t);
+    let then = end(t, m, w.clone(), &append(take(k, order), &[total(&s)]));
     for (place, call) in order.iter().map(|&call| call_of(&s, call)).enumerate() {
         if (place as u64) < k {
             assert_eq!(then(call).time, w(call).time + 1);

@@ -105,7 +105,7 @@ fn every_permutation() {
     tally.finish([0, 13, 14, 15, 16, 17], rounds / 400);
 }
 
-/// On small tables the number that C gets and the buffer it lent tell the first order or a cycle; others do not.
+/// On small tables what C gets and the buffer it lent tell the first order or a cycle; a wrong one does not.
 #[test]
 fn order_told_to_c() {
     let ((rounds, mut random), mut tally) = (fuzzing(87), Tally::new("orders told to C"));
@@ -118,10 +118,8 @@ fn order_told_to_c() {
         assert!(TellsOrder(&t, r, &left), "{} and {:?} of {:?}", r, left, t);
         let wrong = if Given(&t, length(&out)) { 256 * 9 + r } else { total(&shape_of(&t)) };
         assert!(!TellsOrder(&t, wrong, &left), "{} and {:?} of {:?}", wrong, left, t);
-        if Given(&t, length(&out)) {
-            left[random.below(given.bytes.len())] ^= 1;
-            assert!(!TellsOrder(&t, r, &left), "{} and {:?} of {:?}", r, left, t);
-        }
+        left[random.below(given.bytes.len())] = total(&shape_of(&t));
+        assert!(!TellsOrder(&t, r, &left), "{} and {:?} of {:?}", r, left, t);
         tally.count(given.answer.number as usize);
     }
     tally.finish([0, 9], rounds / 400);
@@ -153,8 +151,7 @@ fn verdict_tells() {
     tally.finish([0].into_iter().chain(11..=18), rounds / 400);
 }
 
-/// A run takes a list call by call exactly when the list passes; the first call refused has the verdict's number
-/// and place. A call may be any number.
+/// A run takes a list call by call exactly when it passes, else the first refusal is the verdict's.
 #[test]
 fn taken_in_turn() {
     let ((rounds, mut random), mut tally) = (fuzzing(88), Tally::new("lists taken call by call"));
