@@ -44,7 +44,7 @@ fn tables_checked() {
         assert_eq!(coded(given), as_c(expected) as u64);
         tally.count(expected.number);
     }
-    tally.finish(0..=7, rounds / 400);
+    tally.finish(0..=7, rounds / 4000);
 }
 
 #[test]
@@ -62,7 +62,7 @@ fn tables_ordered() {
         left(&mut random, &given.bytes, &front, room);
         tally.count(expected.number);
     }
-    tally.finish(0..=9, rounds / 400);
+    tally.finish(0..=9, rounds / 4000);
 }
 
 /// Is the first call a direct predecessor of the second? Stands in for a function of the reference on two
@@ -88,7 +88,7 @@ fn pairs_of_calls() {
             tally.count(expected as usize);
         }
     }
-    tally.finish(0..=1, rounds / 400);
+    tally.finish(0..=1, rounds / 4000);
 }
 
 #[test]
@@ -103,7 +103,7 @@ fn orders_judged() {
         assert_eq!(answer(given), expected, "verdict on {:?} by {:?}", calls, bytes);
         tally.count(expected.number);
     }
-    tally.finish((0..=7).chain(11..=18), rounds / 400);
+    tally.finish((0..=7).chain(11..=18), rounds / 4000);
 }
 
 #[test]
@@ -123,7 +123,7 @@ fn records_judged() {
         assert_eq!(answer(judged), expected, "verdict on {:?} by {:?}", given, bytes);
         tally.count(expected.number);
     }
-    tally.finish((0..=7).chain(11..=18), rounds / 400);
+    tally.finish((0..=7).chain(11..=18), rounds / 4000);
 }
 
 /// One call of a judged run over any bytes. Stands in for a function of the reference on bytes, which takes
@@ -149,7 +149,7 @@ fn calls_taken() {
         assert_eq!(given.run.done, next.done, "{} of {:?} after {:?}", call, bytes, done);
         tally.count(number);
     }
-    tally.finish((0..=7).chain(11..=17), rounds / 400);
+    tally.finish((0..=7).chain(11..=17), rounds / 4000);
 }
 
 fn texts_agree(random: &mut Random, tally: &mut Tally, text: &[u8], room: usize) {
@@ -172,7 +172,7 @@ fn texts_read() {
             let room = if random.percent(80) { 644 } else { random.below(200) };
             texts_agree(&mut random, &mut tally, &text, room);
         }
-        tally.finish([0].into_iter().chain(20..=34), rounds / 400);
+        tally.finish([0].into_iter().chain(20..=34), rounds / 4000);
     });
 }
 
@@ -214,7 +214,7 @@ fn texts_listed() {
             left(&mut random, &given.bytes, &front, room);
             tally.count(expected.number);
         }
-        tally.finish([0, 34], rounds / 400);
+        tally.finish([0, 34], rounds / 4000);
     });
 }
 

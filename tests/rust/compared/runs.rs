@@ -130,7 +130,7 @@ fn passed_exactly_when_solved() {
             tally.count(!solves as usize);
         }
     }
-    tally.finish(0..=1, rounds / 400);
+    tally.finish(0..=1, rounds / 4000);
 }
 
 /// Of all values below 3 only the run's end solves the equations.
@@ -153,7 +153,7 @@ fn single_among_all_values() {
         assert!(Ends(&t, &m, &order, &w, round as u64, &asked), "{:?}", t);
         tally.count(0);
     }
-    tally.finish([0], rounds / 400);
+    tally.finish([0], rounds / 4000);
 }
 
 /// Tables of any size: two passed orders end alike, at a solution, and no value near it is another one.
@@ -183,7 +183,7 @@ fn passed_orders_end_alike() {
         front_moved(&t, &m, &w, &calls, random.below(calls.len() + 1) as u64);
         tally.count(0);
     }
-    tally.finish([0], rounds / 400);
+    tally.finish([0], rounds / 4000);
 }
 
 /// A state or a value, and one more.

@@ -32,7 +32,7 @@ fn checked_is_sound() {
         assert_eq!(number == 0, Sound(&t), "{:?}", t);
         tally.count(number as usize);
     }
-    tally.finish(0..=7, rounds / 400);
+    tally.finish(0..=7, rounds / 4000);
 }
 
 /// On a sound table the test holds exactly of the pairs that the five sentences relate.
@@ -53,7 +53,7 @@ fn precedes_is_declared() {
             }
         }
     }
-    tally.finish(0..=1, rounds / 400);
+    tally.finish(0..=1, rounds / 4000);
 }
 
 /// What `order` gives keeps the rules and is passed with N; else a cycle is shown, lowest call first, none twice.
@@ -73,7 +73,7 @@ fn order_given_or_cycle_shown() {
         }
         tally.count(given.answer.number as usize);
     }
-    tally.finish([0, 9], rounds / 400);
+    tally.finish([0, 9], rounds / 4000);
 }
 
 /// On small tables every permutation is judged, and `order` is held to demand 2 in the declared words.
@@ -101,8 +101,8 @@ fn every_permutation() {
             tally.count(number as usize);
         }
     }
-    ordered.finish([0, 9], rounds / 400);
-    tally.finish([0, 13, 14, 15, 16, 17], rounds / 400);
+    ordered.finish([0, 9], rounds / 4000);
+    tally.finish([0, 13, 14, 15, 16, 17], rounds / 4000);
 }
 
 /// On small tables what C gets and the buffer it lent tell the first order or a cycle; a wrong one does not.
@@ -122,7 +122,7 @@ fn order_told_to_c() {
         assert!(!TellsOrder(&t, r, &left), "{} and {:?} of {:?}", r, left, t);
         tally.count(given.answer.number as usize);
     }
-    tally.finish([0, 9], rounds / 400);
+    tally.finish([0, 9], rounds / 4000);
 }
 
 /// The number is 0 exactly when the list keeps the rules, else that of the first call whose conditions fail;
@@ -148,7 +148,7 @@ fn verdict_tells() {
         assert_eq!(given.number == 0, Passes(&s, &none, &l), "{:?} by {:?}", l, t);
         tally.count(given.number as usize);
     }
-    tally.finish([0].into_iter().chain(11..=18), rounds / 400);
+    tally.finish([0].into_iter().chain(11..=18), rounds / 4000);
 }
 
 /// A run takes a list call by call exactly when it passes, else the first refusal is the verdict's.
@@ -179,7 +179,7 @@ fn taken_in_turn() {
         }
         tally.count(verdict.number as usize);
     }
-    tally.finish((0..=7).chain(11..=18), rounds / 400);
+    tally.finish((0..=7).chain(11..=18), rounds / 4000);
 }
 
 /// A text that is read gives the sound table of its lines in line order, and no other; a refusal is at the line
@@ -208,7 +208,7 @@ fn texts_by_their_lines() {
             assert!(!InOrder(&fs, &shape_of(&other)), "{}", shown(&text));
             own_numbers(&fs);
         }
-        tally.finish([0].into_iter().chain(20..=34), rounds / 400);
+        tally.finish([0].into_iter().chain(20..=34), rounds / 4000);
     });
 }
 
