@@ -20,14 +20,15 @@ pub fn Given(t: &[u64], room: u64) -> bool {
 //|   pub produced : (r ≡ callCount t) ↔ ((l : List ℕ) → Cycle (callCount t) (precedes (shapeOf t)) l → ⊥)
 //|   pub first : r ≡ callCount t → First (callCount t) (precedes (shapeOf t)) (take (callCount t) order)
 //|   pub shown : (r ≡ callCount t → ⊥)
-//|       → (k : ℕ) × (r ≡ 256 * 9 + k) × Shown (callCount t) (precedes (shapeOf t)) (take k order)
+//|       → (k : ℕ) × (r ≡ 256 * 9 + k) × (k ≤ callCount t) × Shown (callCount t) (precedes (shapeOf t)) (take k order)
 // k is at most r, since r is more than it by 256 * 9.
 pub fn TellsOrder(t: &[u64], r: u64, order: &[u64]) -> bool {
     let (N, s) = (call_count(t), shape_of(t));
     let pred = |a, b| precedes(&s, a, b);
     let produced = (r == N) == lists_once(N).iter().all(|l| !Cycle(N, &pred, l));
     let first = implies(r == N, || First(N, &pred, take(N, order)));
-    let shown =
-        implies(r != N, || any(r + 1, &|k| r == 256 * 9 + k && Shown(N, &pred, take(k, order))));
+    let shown = implies(r != N, || {
+        any(r + 1, &|k| r == 256 * 9 + k && k <= N && Shown(N, &pred, take(k, order)))
+    });
     produced && first && shown
 }

@@ -81,11 +81,13 @@ pub fn fronted(bytes: &[u64], out: &[u64]) -> Vec<u64> {
 
 //| abbrev pub SettlesClauses : (T : Ended) → ((m : World) → Clauses (m .𝓤) T) → Type 2
 //| SettlesClauses T clauses =
-//|     ((m : World) (κs : Lfts (T .signature .lifetimes)) (a : Args (T .signature) κs) (g : clauses m κs a .ghost)
-//|     → ent (m .𝓤) (emp (m .𝓤)) (clauses m κs a .requires g))
+//|     ((m : World) (κs : Lfts (T .signature .lifetimes)) (a : Args (T .signature) κs) → clauses m κs a .ghost)
 //|     × ((m : World) (κs : Lfts (T .signature .lifetimes)) (a : Args (T .signature) κs) (g : clauses m κs a .ghost)
-//|     (x y : Res (T .signature) κs) (w v : Lasts T κs a)
-//|     → ent (m .𝓤)
-//|     (sep (m .𝓤) (clauses m κs a .ensures g x (atExit T κs a w)) (clauses m κs a .ensures g y (atExit T κs a v)))
-//|     (fact (m .𝓤) ((x ≡ y) × (w ≡ v))))
+//|     → ent (m .𝓤) (emp (m .𝓤)) (clauses m κs a .requires g))
+//|     × (says : (κs : Lfts (T .signature .lifetimes)) (a : Args (T .signature) κs) → Res (T .signature) κs → Lasts T κs a → Type 0)
+//|     × ((m : World) (κs : Lfts (T .signature .lifetimes)) (a : Args (T .signature) κs) (g : clauses m κs a .ghost)
+//|     (x : Res (T .signature) κs) (w : Lasts T κs a)
+//|     → ent (m .𝓤) (clauses m κs a .ensures g x (atExit T κs a w)) (fact (m .𝓤) (says κs a x w)))
+//|     × ((κs : Lfts (T .signature .lifetimes)) (a : Args (T .signature) κs) (x y : Res (T .signature) κs) (w v : Lasts T κs a)
+//|     → says κs a x w → says κs a y v → (x ≡ y) × (w ≡ v))
 // Not computed.

@@ -19,6 +19,7 @@ use Rattle.calls.specs.Precedence.{precedes}
 use Rattle.orders.specs.Cycle.{Cycle}
 use Rattle.orders.specs.First.{First}
 use Rattle.orders.specs.Shown.{Shown}
+use Rattle.orders.specs.Once.{once-most}
 use Rattle.placing.specs.Placing.{callCount}
 use Rattle.sorter.specs.Ordering.{ordering}
 use Rattle.sorter.specs.Answers.{ordering-long}
@@ -37,9 +38,10 @@ pub record TellsOrder (t : List ℕ) (r : ℕ) (order : List ℕ) : Type 0 where
   pub produced : (r ≡ callCount t) ↔ ((l : List ℕ) → Cycle (callCount t) (precedes (shapeOf t)) l → ⊥)
   -- then the N bytes at the buffer's front are the first order
   pub first : r ≡ callCount t → First (callCount t) (precedes (shapeOf t)) (take (callCount t) order)
-  -- otherwise C gets 9 with a length, and that many bytes at the front are a true cycle, shown as it must be
+  -- otherwise C gets 9 with a length of at most N, and that many bytes at the front are a true cycle,
+  -- its lowest call first and no call twice
   pub shown : (r ≡ callCount t → ⊥)
-      → (k : ℕ) × (r ≡ 256 * 9 + k) × Shown (callCount t) (precedes (shapeOf t)) (take k order)
+      → (k : ℕ) × (r ≡ 256 * 9 + k) × (k ≤ callCount t) × Shown (callCount t) (precedes (shapeOf t)) (take k order)
 
 -- ---- a coded answer
 
@@ -114,6 +116,7 @@ module _ (t out : List ℕ) (sound : Sound t) (enough : callCount t ≤ length o
             let (nine, long, c) = order-else t (length out) sound enough (λ z. n (N-is .1 z)) in (
               ordering t (length out) .answer .place,
               omega (arith, nine),
+              omega (arith, long, once-most (callCount t) (ordering t (length out) .bytes) (c .cycle .calls) (c .once)),
               rw (order-front t out (ordering t (length out) .answer .place) refl) c,
             );
       }

@@ -1,5 +1,5 @@
 -- The demands over the contracts of what C calls, as callers read them: r is the number that C gets.
-use mathlib.Core.Path.{_≡_, sym}
+use mathlib.Core.Path.{_≡_, sym, _∙_}
 use mathlib.Core.Logic.{_↔_}
 use Prim.Native.Nat.{ℕ, _≤_, _<_}
 use lib.IntN.{ℤ}
@@ -11,6 +11,7 @@ use Rattle.table.specs.Packed.{shapeOf}
 use Rattle.table.specs.Sound.{Sound}
 use Rattle.placing.specs.Placing.{callCount}
 use Rattle.sorter.specs.Ordering.{ordering}
+use Rattle.sorter.specs.Demand.{order-first}
 use Rattle.judging.specs.Passes.{Passes}
 use Rattle.twin.specs.Rules.{Rules}
 use Rattle.twin.specs.Run.{World}
@@ -24,6 +25,7 @@ use Rattle.firmware.proofs.oorlichday_order.Reads as order-says
 use Rattle.firmware.proofs.oorlichday_verdict.Kinds as verdict
 use Rattle.firmware.proofs.oorlichday_verdict.Reads as verdict-says
 use Rattle.demands.specs.Coded.{TellsOrder, then-place, check-coded, order-coded, order-0, order-front, verdict-coded, verdict-0}
+use Rattle.demands.specs.Given.{given-sound, given-room}
 use Rattle.demands.specs.Demands.{given-ends}
 
 -- C gets less than 256 exactly for a sound table, and then it gets N
@@ -35,6 +37,20 @@ check-told κs a r w p = rw p (check-coded (now (a .0)))
 pub order-told : Says order.ps order.r order-says.Learnt (λ κs a r w. (
     Sound (now (a .0)) → callCount (now (a .0)) ≤ length (now (a .1 .0)) → TellsOrder (now (a .0)) r (w .1 .0)))
 order-told κs a r w p sound enough = rw (p .0, p .1) (order-coded (now (a .0)) (now (a .1 .0)) sound enough)
+
+-- it gets less than 256 only where the table is sound and there is room, and then it gets N
+pub order-given : Says order.ps order.r order-says.Learnt (λ κs a r w. (
+    r < 256 → Sound (now (a .0)) × (callCount (now (a .0)) ≤ length (now (a .1 .0))) × (r ≡ callCount (now (a .0)))))
+order-given κs a r w p l =
+    let t = now (a .0) in
+    let room = length (now (a .1 .0)) in
+    let given = order-0 t room .0 (rw (p .0) at l) in
+    let sound = given-sound t room given in
+    let enough = given-room t room given in (
+      sound,
+      enough,
+      p .0 ∙ then-place (ordering t room .answer) given ∙ order-first t room sound enough given .1,
+    )
 
 -- demand 2, last sentence: C gets less than 256 exactly when the table is sound and the list passes, and then N
 pub verdict-told : Says verdict.ps verdict.r verdict-says.Learnt (λ κs a r w. (

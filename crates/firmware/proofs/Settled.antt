@@ -1,7 +1,12 @@
 -- The contracts of the public functions, as callers read them: nothing is asked, one answer is permitted, with every lent byte.
-use mathlib.Core.Path.{ap, sym, refl, _∙_}
+use mathlib.Core.Path.{_≡_, ap, sym, refl, _∙_}
 use base.Logic.{emp, id⊢}
-use Rattle.search.specs.Contracts.{Settles, SettlesClauses, facts}
+use denote.Ref.{now}
+use Rattle.search.specs.Contracts.{Settles, SettlesClauses}
+use Rattle.table.specs.Packed.{shapeOf}
+use Rattle.judging.specs.Verdict.{verdictOf}
+use Rattle.judge.specs.Records.{allNumbered}
+use Rattle.firmware.specs.Code.{coded}
 use Rattle.firmware.proofs.oorlichday_verdict_of_records as oorlichday-verdict-of-records
 use Rattle.firmware.proofs.oorlichday_check.Kinds as oorlichday-check
 use Rattle.firmware.proofs.oorlichday_check.Reads as oorlichday-check-says
@@ -25,6 +30,9 @@ oorlichday-verdict-settled = ((λ κs a. tt), (λ κs a x y w v p q. (p ∙ sym 
 pub oorlichday-verdict-of-records-settled : SettlesClauses oorlichday-verdict-of-records.ended
     (λ m. oorlichday-verdict-of-records.clauses (m .𝓤) (m .H) (m .𝓖 .A) (m .𝓜 .mem) (m .𝓡 .run))
 oorlichday-verdict-of-records-settled = (
+  (λ m κs a. tt),
   (λ m κs a g. id⊢ (m .𝓤) (emp (m .𝓤))),
-  (λ m κs a g x y w v. facts m _ _ _ (λ p q. (p ∙ sym q, refl))),
+  (λ κs a x w. x ≡ coded (verdictOf (now (a .0)) (allNumbered (shapeOf (now (a .0))) (now (a .1 .0))))),
+  (λ m κs a g x w. id⊢ (m .𝓤) _),
+  (λ κs a x y w v p q. (p ∙ sym q, refl)),
 )

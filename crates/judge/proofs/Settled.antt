@@ -3,11 +3,13 @@ use mathlib.Core.Path.{_≡_, sym, refl, _∙_}
 use mathlib.Core.Logic.{_↔_}
 use base.Logic.{emp, id⊢}
 use denote.Ref.{now}
-use Rattle.search.specs.Contracts.{Settles, SettlesClauses, Says, facts}
+use Rattle.search.specs.Contracts.{Settles, SettlesClauses, Says}
 use Rattle.search.specs.Sets.{none}
 use Rattle.table.specs.Sound.{Sound}
 use Rattle.table.specs.Packed.{shapeOf}
 use Rattle.judging.specs.Passes.{Passes}
+use Rattle.judging.specs.Verdict.{verdictOf}
+use Rattle.judge.specs.Records.{allNumbered}
 use Rattle.judge.proofs.records.verdict_of_records as verdict-of-records
 use Rattle.judge.proofs.Run.new.Kinds as new
 use Rattle.judge.proofs.Run.new.Reads as new-says
@@ -33,6 +35,9 @@ verdict-demand κs a x w p = p .1
 pub verdict-of-records-settled : SettlesClauses verdict-of-records.ended
     (λ m. verdict-of-records.clauses (m .𝓤) (m .H) (m .𝓖 .A) (m .𝓜 .mem) (m .𝓡 .run))
 verdict-of-records-settled = (
+  (λ m κs a. tt),
   (λ m κs a g. id⊢ (m .𝓤) (emp (m .𝓤))),
-  (λ m κs a g x y w v. facts m _ _ _ (λ p q. (p ∙ sym q, refl))),
+  (λ κs a x w. x ≡ verdictOf (now (a .0)) (allNumbered (shapeOf (now (a .0))) (now (a .1 .0)))),
+  (λ m κs a g x w. id⊢ (m .𝓤) _),
+  (λ κs a x y w v p q. (p ∙ sym q, refl)),
 )

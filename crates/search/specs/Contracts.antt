@@ -1,14 +1,16 @@
 -- What a contract must be, said of the contract itself as its callers read it.
---   Settles         nothing is asked of a caller, and one answer is permitted, with one value of all that was lent
+--   Settles         nothing is asked of a caller, and one answer at most is permitted, with one content of all that was lent
 --   SettlesSeen     the same, of what is seen of a result: the bytes of a part that is handed back
---   SettlesClauses  the same in the program logic, of a contract over a lent slice of structs
+--   SettlesClauses  the same in the program logic, of a contract over a lent slice of structs: it shows a plain fact,
+--                   and that fact permits one answer
 --   Says            whatever the contract permits is so
+-- That an answer is given at all, and meets the contract, is what a proved function is.
 use mathlib.Core.Path.{_≡_}
 use mathlib.Core.List.{List}
 use Prim.Native.Nat.{ℕ}
 use contract.Lifetimes.{Lfts}
-use base.Logic.{ent, emp, sep, fst∗, snd∗}
-use contract.Monad.{fact, factI, fact-use}
+use base.Logic.{ent, emp}
+use contract.Monad.{fact}
 use borrow.Fn.World.{World}
 use denote.Triple.Entry.{Args, Res}
 use denote.Triple.Clauses.{Ended, Clauses, Lasts, atExit}
@@ -34,18 +36,12 @@ module _ {n : ℕ} (ps : List (PK n)) (r : RK n) where
 
 abbrev pub SettlesClauses : (T : Ended) → ((m : World) → Clauses (m .𝓤) T) → Type 2
 SettlesClauses T clauses =
-    ((m : World) (κs : Lfts (T .signature .lifetimes)) (a : Args (T .signature) κs) (g : clauses m κs a .ghost)
-    → ent (m .𝓤) (emp (m .𝓤)) (clauses m κs a .requires g))
+    ((m : World) (κs : Lfts (T .signature .lifetimes)) (a : Args (T .signature) κs) → clauses m κs a .ghost)
     × ((m : World) (κs : Lfts (T .signature .lifetimes)) (a : Args (T .signature) κs) (g : clauses m κs a .ghost)
-    (x y : Res (T .signature) κs) (w v : Lasts T κs a)
-    → ent (m .𝓤)
-    (sep (m .𝓤) (clauses m κs a .ensures g x (atExit T κs a w)) (clauses m κs a .ensures g y (atExit T κs a v)))
-    (fact (m .𝓤) ((x ≡ y) × (w ≡ v))))
-
--- two facts held together show what follows from them
-pub facts : (m : World) (P Q R : Type 0) → (P → Q → R)
-    → ent (m .𝓤) (sep (m .𝓤) (fact (m .𝓤) P) (fact (m .𝓤) Q)) (fact (m .𝓤) R)
-facts m P Q R f =
-    fact-use (m .𝓤) P (fst∗ (m .𝓤) (fact (m .𝓤) P) (fact (m .𝓤) Q)) (λ p.
-    fact-use (m .𝓤) Q (snd∗ (m .𝓤) (fact (m .𝓤) P) (fact (m .𝓤) Q)) (λ q.
-    factI (m .𝓤) R (sep (m .𝓤) (fact (m .𝓤) P) (fact (m .𝓤) Q)) (f p q)))
+    → ent (m .𝓤) (emp (m .𝓤)) (clauses m κs a .requires g))
+    × (says : (κs : Lfts (T .signature .lifetimes)) (a : Args (T .signature) κs) → Res (T .signature) κs → Lasts T κs a → Type 0)
+    × ((m : World) (κs : Lfts (T .signature .lifetimes)) (a : Args (T .signature) κs) (g : clauses m κs a .ghost)
+    (x : Res (T .signature) κs) (w : Lasts T κs a)
+    → ent (m .𝓤) (clauses m κs a .ensures g x (atExit T κs a w)) (fact (m .𝓤) (says κs a x w)))
+    × ((κs : Lfts (T .signature .lifetimes)) (a : Args (T .signature) κs) (x y : Res (T .signature) κs) (w v : Lasts T κs a)
+    → says κs a x w → says κs a y v → (x ≡ y) × (w ≡ v))
