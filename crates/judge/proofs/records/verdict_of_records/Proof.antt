@@ -1,5 +1,4 @@
--- The walk over the code, by hand: while nothing is refused the marks are those of the records so far, and each is lent
--- to the function that judges one record and taken back.
+-- The walk over the code, by hand: the marks of the records so far are lent for each record and taken back.
 use mathlib.Core.Path.{_≡_, refl, sym, ap, _∙_, subst}
 use mathlib.Core.Logic.{_≢_}
 use mathlib.Core.Bool.{Bool, true, false, not, cond}
