@@ -1,6 +1,8 @@
 // What C calls on packed tables: for the box 256 times the number plus the place.
+use crate::lines::put_bytes;
 use crate::lines::put_gives;
 use crate::lines::put_left;
+use crate::lines::put_name;
 use crate::lines::write_line;
 use crate::tables::A;
 use crate::tables::c_fed;
@@ -11,61 +13,63 @@ use firmware::oorlichday_order;
 use firmware::oorlichday_verdict;
 use judge::Run;
 
-// What a function gives.
-fn gives(name: &[u8], code: u32) {
+fn check_of(name: &[u8], table: &[u8]) {
     let mut line = [0u8; 120];
-    let mut at = pen::put(&mut line, 0, name);
-    at = put_gives(&mut line, at, code as usize);
+    let mut at = put_name(&mut line, b"oorlichday_check of ", name);
+    at = put_gives(&mut line, at, oorlichday_check(table) as usize);
     write_line(&mut line, at);
 }
 
-// What the order gives, and the buffer that it was lent.
 fn order_of(name: &[u8], table: &[u8]) {
     let mut buffer = [99u8; 8];
     let code = oorlichday_order(table, &mut buffer);
     let mut line = [0u8; 120];
-    let mut at = pen::put(&mut line, 0, name);
+    let mut at = put_name(&mut line, b"oorlichday_order of ", name);
     at = put_gives(&mut line, at, code as usize);
     at = put_left(&mut line, at, &buffer);
     write_line(&mut line, at);
 }
 
-// What the desk's calls give: the number of a taken call, 1 where the first call precedes the second.
-fn desk_calls() {
-    let first = oorlichday_take(&A, Run::new(), 2);
-    gives(b"oorlichday_take of A: 2", first.number as u32);
-    let stepped = oorlichday_take(&A, Run::new(), 0);
-    let run = stepped.run;
-    let second = oorlichday_take(&A, run, 2);
-    gives(b"oorlichday_take of A: 0, then 2", second.number as u32);
-    gives(
-        b"oorlichday_precedes of A: 0 2",
-        oorlichday_precedes(&A, 0, 2) as u32,
+fn verdict_on(name: &[u8], table: &[u8], order: &[u8]) {
+    let mut line = [0u8; 120];
+    let mut at = put_name(&mut line, b"oorlichday_verdict on ", name);
+    at = put_bytes(&mut line, at, order);
+    at = put_gives(&mut line, at, oorlichday_verdict(table, order) as usize);
+    write_line(&mut line, at);
+}
+
+// The number that a desk's run answers, and the run after it.
+fn take(name: &[u8], run: Run, call: usize) -> Run {
+    let taken = oorlichday_take(&A, run, call);
+    let mut line = [0u8; 120];
+    let mut at = put_name(&mut line, b"oorlichday_take of ", name);
+    at = put_gives(&mut line, at, taken.number as usize);
+    write_line(&mut line, at);
+    taken.run
+}
+
+// 1 where the first call of A precedes the second.
+fn precedes(name: &[u8], first: usize, second: usize) {
+    let mut line = [0u8; 120];
+    let mut at = put_name(&mut line, b"oorlichday_precedes of ", name);
+    at = put_gives(
+        &mut line,
+        at,
+        oorlichday_precedes(&A, first, second) as usize,
     );
-    gives(
-        b"oorlichday_precedes of A: 2 0",
-        oorlichday_precedes(&A, 2, 0) as u32,
-    );
+    write_line(&mut line, at);
 }
 
 pub fn all() {
-    gives(b"oorlichday_check of A", oorlichday_check(&A));
-    gives(
-        b"oorlichday_check of U 33",
-        oorlichday_check(&[33u8, 0, 0, 0]),
-    );
-    order_of(b"oorlichday_order of A", &A);
-    order_of(
-        b"oorlichday_order of C, feeds (0,0) (1,1)",
-        &c_fed(0, 0, 1, 1),
-    );
-    gives(
-        b"oorlichday_verdict on A: 0 2 5 1 3 4",
-        oorlichday_verdict(&A, &[0u8, 2, 5, 1, 3, 4]),
-    );
-    gives(
-        b"oorlichday_verdict on A: 0 1",
-        oorlichday_verdict(&A, &[0u8, 1]),
-    );
-    desk_calls();
+    check_of(b"A", &A);
+    check_of(b"U 33", &[33u8, 0, 0, 0]);
+    order_of(b"A", &A);
+    order_of(b"C, feeds (0,0) (1,1)", &c_fed(0, 0, 1, 1));
+    verdict_on(b"A:", &A, &[0u8, 2, 5, 1, 3, 4]);
+    verdict_on(b"A:", &A, &[0u8, 1]);
+    let stepped = take(b"A: 0", Run::new(), 0);
+    take(b"A: 0, then 2", stepped, 2);
+    take(b"A: 2", Run::new(), 2);
+    precedes(b"A: 0 2", 0, 2);
+    precedes(b"A: 2 0", 2, 0);
 }

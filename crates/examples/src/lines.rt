@@ -15,6 +15,12 @@ pub fn put_bytes(line: &mut [u8], at: usize, bytes: &[u8]) -> usize {
     end
 }
 
+// What is called, and on what.
+pub fn put_name(line: &mut [u8], called: &[u8], name: &[u8]) -> usize {
+    let at = pen::put(line, 0, called);
+    pen::put(line, at, name)
+}
+
 // A number that is given.
 pub fn put_gives(line: &mut [u8], at: usize, number: usize) -> usize {
     let end = pen::put(line, at, b" gives ");
@@ -40,18 +46,18 @@ pub fn write_line(line: &mut [u8], at: usize) {
     io::write_all(1, stretch(line, 0, end));
 }
 
-// An example's name, and the answer that it gives.
-pub fn gives(name: &[u8], answer: Answer) {
+// A call and its answer.
+pub fn gives(called: &[u8], name: &[u8], answer: Answer) {
     let mut line = [0u8; 120];
-    let mut at = pen::put(&mut line, 0, name);
+    let mut at = put_name(&mut line, called, name);
     at = put_answer(&mut line, at, answer);
     write_line(&mut line, at);
 }
 
 // The same, with the buffer that was lent.
-pub fn leaves(name: &[u8], answer: Answer, buffer: &[u8]) {
+pub fn leaves(called: &[u8], name: &[u8], answer: Answer, buffer: &[u8]) {
     let mut line = [0u8; 120];
-    let mut at = pen::put(&mut line, 0, name);
+    let mut at = put_name(&mut line, called, name);
     at = put_answer(&mut line, at, answer);
     at = put_left(&mut line, at, buffer);
     write_line(&mut line, at);

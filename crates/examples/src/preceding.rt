@@ -1,4 +1,5 @@
 // Which call is a direct predecessor of which.
+use crate::lines::put_name;
 use crate::lines::write_line;
 use crate::tables::A;
 use crate::tables::C;
@@ -31,8 +32,7 @@ fn put_pairs(line: &mut [u8], at: usize, table: &[u8]) -> usize {
 
 fn pairs(name: &[u8], table: &[u8]) {
     let mut line = [0u8; 120];
-    let mut at = pen::put(&mut line, 0, b"precedence of ");
-    at = pen::put(&mut line, at, name);
+    let mut at = put_name(&mut line, b"precedence of ", name);
     at = put_pairs(&mut line, at, table);
     write_line(&mut line, at);
 }

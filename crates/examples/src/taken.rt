@@ -1,5 +1,6 @@
 // Judged runs, call by call: the number of each answer, and the calls that are done after it.
 use crate::lines::put_gives;
+use crate::lines::put_name;
 use crate::lines::write_line;
 use crate::tables::A;
 use crate::tables::BOTH_KINDS;
@@ -32,7 +33,7 @@ fn take(name: &[u8], run: Run, table: &[u8], call: usize) -> Run {
     let next = taken.run;
     let done = next.done;
     let mut line = [0u8; 120];
-    let mut at = pen::put(&mut line, 0, name);
+    let mut at = put_name(&mut line, name, b": taking ");
     at = pen::put_number(&mut line, at, call);
     at = put_gives(&mut line, at, taken.number as usize);
     at = pen::put(&mut line, at, b", done");
@@ -55,37 +56,32 @@ fn with_done(first: usize, second: usize) -> Run {
 
 // A's order, with refused calls between.
 fn in_turn() {
-    let mut run = take(b"A: taking ", Run::new(), &A, 1);
-    run = take(b"A: taking ", run, &A, 0);
-    run = take(b"A: taking ", run, &A, 0);
-    run = take(b"A: taking ", run, &A, 2);
-    run = take(b"A: taking ", run, &A, 4);
-    run = take(b"A: taking ", run, &A, 5);
-    run = take(b"A: taking ", run, &A, 3);
-    run = take(b"A: taking ", run, &A, 1);
-    run = take(b"A: taking ", run, &A, 3);
-    run = take(b"A: taking ", run, &A, 4);
-    take(b"A: taking ", run, &A, 6);
+    let mut run = take(b"A", Run::new(), &A, 1);
+    run = take(b"A", run, &A, 0);
+    run = take(b"A", run, &A, 0);
+    run = take(b"A", run, &A, 2);
+    run = take(b"A", run, &A, 4);
+    run = take(b"A", run, &A, 5);
+    run = take(b"A", run, &A, 3);
+    run = take(b"A", run, &A, 1);
+    run = take(b"A", run, &A, 3);
+    run = take(b"A", run, &A, 4);
+    take(b"A", run, &A, 6);
 }
 
 // States that no order leads to, marks at N and above, a number that no byte holds, a table that is not sound.
 fn any_state() {
-    take(b"A, 4 done: taking ", with_done(4, 4), &A, 0);
+    take(b"A, 4 done", with_done(4, 4), &A, 0);
     take(
-        b"a delayed input set, a reactive one not: taking ",
+        b"a delayed input set, a reactive one not",
         with_done(2, 2),
         &BOTH_KINDS,
         0,
     );
-    take(b"A, 6 and 200 done: taking ", with_done(6, 200), &A, 6);
-    take(b"A, 6 and 200 done: taking ", with_done(6, 200), &A, 0);
-    take(b"A: taking ", Run::new(), &A, 256);
-    take(
-        b"A, input 0 of kind 2: taking ",
-        Run::new(),
-        &a_with(8, 2),
-        0,
-    );
+    take(b"A, 6 and 200 done", with_done(6, 200), &A, 6);
+    take(b"A, 6 and 200 done", with_done(6, 200), &A, 0);
+    take(b"A", Run::new(), &A, 256);
+    take(b"A, input 0 of kind 2", Run::new(), &a_with(8, 2), 0);
 }
 
 pub fn all() {

@@ -19,47 +19,40 @@ fn answered(reading: Reading) -> Answer {
 fn read(name: &[u8], text: &[u8]) {
     let mut buffer = [99u8; 14];
     let reading = oorlichday_read(text, &mut buffer);
-    leaves(name, answered(reading), &buffer);
+    leaves(b"oorlichday_read of ", name, answered(reading), &buffer);
 }
 
 // What is listed of a text in a buffer of 104 bytes, lent full of dots.
 fn list(name: &[u8], text: &[u8]) {
     let mut buffer = [46u8; 104];
     let reading = oorlichday_list(text, &mut buffer);
-    gives(name, answered(reading));
+    gives(b"oorlichday_list of ", name, answered(reading));
     io::write_all(1, &buffer);
     io::write_all(1, b"\n");
 }
 
-// The text in buffers that have room, and in some that have not.
-fn in_buffers(text: &[u8]) {
-    read(b"oorlichday_read of table A's text", text);
-    list(b"oorlichday_list of table A's text", text);
+// The same with buffers of 11 bytes.
+fn in_eleven(name: &[u8], text: &[u8]) {
     let mut table = [99u8; 11];
     let mut reading = oorlichday_read(text, &mut table);
-    leaves(b"oorlichday_read in 11 bytes", answered(reading), &table);
+    leaves(
+        b"oorlichday_read in 11 bytes of ",
+        name,
+        answered(reading),
+        &table,
+    );
     let mut listing = [99u8; 11];
     reading = oorlichday_list(text, &mut listing);
-    leaves(b"oorlichday_list in 11 bytes", answered(reading), &listing);
-}
-
-// A name declared twice; a last line, the 300th, that is not ended.
-fn refused() {
-    read(
-        b"oorlichday_read of a unit twice",
-        b"cosim\t1\nunit\tpump\nunit\tpump\n",
+    leaves(
+        b"oorlichday_list in 11 bytes of ",
+        name,
+        answered(reading),
+        &listing,
     );
-    list(
-        b"oorlichday_list of a unit twice",
-        b"cosim\t1\nunit\tpump\nunit\tpump\n",
-    );
-    let mut lines = [10u8; 300];
-    lines[299] = 97;
-    read(b"oorlichday_read of 300 lines, the last not ended", &lines);
 }
 
 // Table A's text at the front of a buffer; gives its length.
-fn put_document(text: &mut [u8]) -> usize {
+fn put_text(text: &mut [u8]) -> usize {
     let mut at = pen::put(text, 0, b"cosim\t1\nunit\tpump\nunit\ttank\n");
     at = pen::put(text, at, b"out\tpump\tflow\nout\ttank\tlevel\n");
     at = pen::put(
@@ -74,9 +67,21 @@ fn put_document(text: &mut [u8]) -> usize {
     )
 }
 
+// A name declared twice.
+fn twice(text: &[u8]) {
+    read(b"a unit twice", text);
+    list(b"a unit twice", text);
+}
+
 pub fn all() {
     let mut text = [0u8; 200];
-    let length = put_document(&mut text);
-    in_buffers(stretch(&text, 0, length));
-    refused();
+    let length = put_text(&mut text);
+    let a_text = stretch(&text, 0, length);
+    read(b"table A's text", a_text);
+    list(b"table A's text", a_text);
+    in_eleven(b"table A's text", a_text);
+    twice(b"cosim\t1\nunit\tpump\nunit\tpump\n");
+    let mut lines = [10u8; 300];
+    lines[299] = 97;
+    read(b"300 lines, the last not ended", &lines);
 }
