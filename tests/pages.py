@@ -84,8 +84,8 @@ def edits_page():
     """All must-fail edits: what each does, and the fact that it is refused by."""
     lines = ["# Edits that must fail", "",
              "Each file `crates/NAME/must-fail/LABEL.edit` changes a few words of its crate. The prover must refuse the crate with "
-             "it, and for the reason that the edit gives, which the gate looks at (`tests/edits.py`): the first error is a fact of "
-             "the file named, a computed example or a statement on a contract; or the program named, run on the edited sources, "
+             "it, and for the reason that the edit gives, which the gate looks at (`tests/edits.py`): the first error of the "
+             "file named is a fact of it that fails, a computed example or a statement on a contract; or the program named, run on the edited sources, "
              "writes something else. [PROMISES.md](PROMISES.md) says which promise each edit breaks. "
              "This page is written by `tests/pages.py --write`.", "",
              "| edit | what it does | refused by |", "|---|---|---|"]
