@@ -119,7 +119,7 @@ fn any_order(random: &mut Random, bytes: &[u8]) -> Vec<u64> {
 #[test]
 fn passed_exactly_when_solved() {
     let ((rounds, mut random), mut tally) = (fuzzing(91), Tally::new("permutations run"));
-    for _ in 0..rounds / 60 {
+    for _ in 0..rounds / 20 {
         let t = numbers(&tiny(&mut random, 6).packed());
         let (s, m) = (shape_of(&t), mixing(random.next()));
         let w = world(&mut random, &s, 1 << 40, 0);
@@ -127,6 +127,7 @@ fn passed_exactly_when_solved() {
             let end = end(&t, &m, w.clone(), &order);
             let solves = Solves(&s, &m, &values(&w), &values(&end));
             assert_eq!(Passed(&t, &order), solves, "{:?} by {:?}", order, t);
+            assert_eq!(Ends(&t, &m, &order, &w, 0, &[]), solves, "{:?} by {:?}", order, t);
             tally.count(!solves as usize);
         }
     }

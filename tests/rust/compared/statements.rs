@@ -89,8 +89,12 @@ fn every_permutation() {
         let declared = |a, b| Precedes(&s, a, b);
         let given = ordering(&t, 7);
         assert!(OrderOrCycle(&t, given.answer, take(given.answer.place, &given.bytes)), "{:?}", t);
-        let other = answer(9 - given.answer.number, given.answer.place);
-        assert!(!OrderOrCycle(&t, other, take(given.answer.place, &given.bytes)), "{:?}", t);
+        let (number, place) = (given.answer.number, given.answer.place);
+        let wrong = [&[total(&s)], &given.bytes[1..]].concat();
+        assert!(!OrderOrCycle(&t, given.answer, &wrong), "{:?}", t);
+        for other in [9 - number, 10] {
+            assert!(!OrderOrCycle(&t, answer(other, place), &given.bytes), "{:?}", t);
+        }
         ordered.count(given.answer.number as usize);
         for order in &orders[total(&s) as usize] {
             let number = verdict_of(&t, order).number;
