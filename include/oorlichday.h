@@ -14,13 +14,13 @@ extern "C" {
  * number comes, goes or changes its meaning. Both headers give it, so that a compiler objects to
  * headers of two versions in one file.
  */
-#define OORLICHDAY_VERSION 1
+#define OORLICHDAY_VERSION 2
 
 /* Greatest sizes in bytes of a packed table and of an order. */
 #define OORLICHDAY_TABLE_MAX 644u
 #define OORLICHDAY_ORDER_MAX 224u
 
-/* An answer's number, SPECIFICATION, Numbers: 1 to 7 the table's, 8 to 10 the order's, 11 to 18 the verdict's. */
+/* An answer's number, SPECIFICATION, Numbers: 1 to 7 the table's, 8 and 9 the order's, 11 to 18 the verdict's. */
 enum oorlichday_number {
     OORLICHDAY_OK = 0,
     OORLICHDAY_LENGTH = 1,            /* fewer than 4 bytes, or another length than the counts call for */
@@ -32,7 +32,7 @@ enum oorlichday_number {
     OORLICHDAY_FEED_TWICE = 7,        /* an earlier feed is the same */
     OORLICHDAY_ROOM = 8,              /* the buffer has fewer than N bytes */
     OORLICHDAY_CYCLE = 9,             /* there is a cycle; its length is the place */
-    OORLICHDAY_NOTHING_READY = 10,    /* nothing ready, no cycle found; never for a sound table */
+    /* 10 is not used: it was a number of version 1, which no table gave */
     OORLICHDAY_NO_CALL = 11,          /* this is no call */
     OORLICHDAY_DONE_BEFORE = 12,      /* this call is done already */
     OORLICHDAY_DELAYED_SET = 13,      /* a step: a delayed input has been set */

@@ -11,7 +11,7 @@ extern "C" {
 #endif
 
 /* What it counts is said in oorlichday.h, and it is the same there. */
-#define OORLICHDAY_VERSION 1
+#define OORLICHDAY_VERSION 2
 
 /* Greatest sizes in bytes of a text that is read, and of a listing. */
 #define OORLICHDAY_TEXT_MAX 24576u

@@ -8,10 +8,10 @@ import sys
 from pathlib import Path
 
 ROOT = Path(__file__).resolve().parent.parent
-PAGES = [ROOT / "README.md", *sorted((ROOT / "docs").glob("*.md")), *sorted((ROOT / "examples").glob("*.md"))]
+PAGES = [ROOT / "README.md", *sorted((ROOT / "docs").rglob("*.md")), *sorted((ROOT / "examples").glob("*.md"))]
 ROOMS = ("crates", "tests", "bench", "include", "demo")
 SPECIFICATION = ROOT / "docs/SPECIFICATION.md"
-NUMBERS = [*range(0, 19), *range(20, 35)]
+NUMBERS = [*range(0, 10), *range(11, 19), *range(20, 35)]
 EDITS = ROOT / "docs/EDITS.md"
 CITED = r"((?:(?: |, | and | to )\d+\b)*)"  # the rules behind a section's name
 

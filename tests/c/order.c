@@ -86,7 +86,7 @@ static void any_bytes(int side)
         uint8_t *lent = lend_copy(first, table, length, side);
         uint8_t *out = lend(second, 224, side);
         uint32_t answer = oorlichday_order(lent, length, out, 224), number = answer / 256;
-        EXPECT(number < 10 && number != 8 && canaries(second, out, number % 9 ? 0 : answer % 256));
+        EXPECT(number <= 9 && number != 8 && canaries(second, out, number % 9 ? 0 : answer % 256));
         EXPECT(memcmp(lent, table, length) == 0 && canaries(first, lent, length));
     }
 }

@@ -1,6 +1,7 @@
 // Demand 2's words by places, and the two procedures: the order, and the cycle shown.
 use super::library::{
-    any, append, cons, drop, each, get_d, implies, length, permutations, take, Relation, Test,
+    any, append, cons, drop, each, get_d, implies, length, permutations, remembered, take,
+    Relation, Test,
 };
 use super::search::{add, least_from, none, some};
 
@@ -140,21 +141,16 @@ pub fn lowest_before(N: u64, pred: Relation, done: Test, c: u64) -> u64 {
 
 //|   unfoldable pub walk : ℕ → List ℕ → ℕ → List ℕ
 //|   walk zero seen c = []
-//|   walk (suc n) seen c =
-//|     cond (ltb c N) (cond (among seen c) (upto c seen) (walk n (c ∷ seen) (lowestBefore c))) []
+//|   walk (suc n) seen c = cond (among seen c) (upto c seen) (walk n (c ∷ seen) (lowestBefore c))
 pub fn walk(N: u64, pred: Relation, done: Test, n: u64, seen: &[u64], c: u64) -> Vec<u64> {
     match n {
         0 => vec![],
         _ => {
-            if c < N {
-                if among(seen, c) {
-                    upto(c, seen)
-                } else {
-                    let before = lowest_before(N, pred, done, c);
-                    walk(N, pred, done, n - 1, &cons(c, seen.to_vec()), before)
-                }
+            if among(seen, c) {
+                upto(c, seen)
             } else {
-                vec![]
+                let before = lowest_before(N, pred, done, c);
+                walk(N, pred, done, n - 1, &cons(c, seen.to_vec()), before)
             }
         }
     }
@@ -197,6 +193,55 @@ pub fn lowest_place(N: u64, l: &[u64]) -> u64 {
 pub fn shown(N: u64, pred: Relation, done: Test) -> Vec<u64> {
     let met = met(N, pred, done);
     turn(lowest_place(N, &met), &met)
+}
+
+// ---- crates/orders/specs/Meets.antt
+
+//| module _ (N : ℕ) (pred : ℕ → ℕ → Bool) (done : ℕ → Bool) where
+//|   unfoldable pub visit : ℕ → ℕ
+//|   visit zero = lowestLeft N pred done
+//|   visit (suc i) = lowestBefore N pred done (visit i)
+pub fn visit(N: u64, pred: Relation, done: Test, i: u64) -> u64 {
+    match i {
+        0 => lowest_left(N, done),
+        _ => lowest_before(N, pred, done, visit(N, pred, done, i - 1)),
+    }
+}
+
+//|   pub record MeetsAgain : Type 0 where
+//|     pub first : ℕ
+//|     pub again : ℕ
+//|     pub later : first < again
+//|     pub soon : again ≤ N
+//|     pub same : visit again ≡ visit first
+//|     pub new : (i j : ℕ) → i < j → j < again → visit i ≡ visit j → ⊥
+//|     pub call : (i : ℕ) → i ≤ again → visit i < N
+//|     pub left : (i : ℕ) → i ≤ again → T (not (done (visit i)))
+//|     pub back : (i : ℕ) → i < again → T (pred (visit (suc i)) (visit i))
+// each `first` and `again` with which the record can be made
+pub fn MeetsAgain(N: u64, pred: Relation, done: Test) -> Vec<(u64, u64)> {
+    let at = remembered(|i| visit(N, pred, done, i));
+    let meets = |first: u64, again: u64| {
+        let later = first < again;
+        let same = at(again) == at(first);
+        let new = each(again, &|j| each(j, &|i| at(i) != at(j)));
+        let call = each(again + 1, &|i| at(i) < N);
+        let left = each(again + 1, &|i| !done(at(i)));
+        let back = each(again, &|i| pred(at(i + 1), at(i)));
+        later && same && new && call && left && back
+    };
+    let pairs = (0..=N).flat_map(|again| (0..=N).map(move |first| (first, again)));
+    pairs.filter(|&(first, again)| meets(first, again)).collect()
+}
+
+//|   abbrev pub seen : ℕ → List ℕ
+//|   seen zero = []
+//|   seen (suc i) = visit i ∷ seen i
+pub fn seen(N: u64, pred: Relation, done: Test, i: u64) -> Vec<u64> {
+    match i {
+        0 => vec![],
+        _ => cons(visit(N, pred, done, i - 1), seen(N, pred, done, i - 1)),
+    }
 }
 
 // ---- crates/orders/specs/Turned.antt

@@ -14,27 +14,16 @@ pub fn shown_of(t: &[u64]) -> Vec<u64> {
     shown(call_count(t), &|a, b| precedes(&s, a, b), &|c| among(&placed, c))
 }
 
-//| unfoldable pub stopped : List ℕ → Outcome
-//| stopped t =
-//|     cond (eqb (length (shownOf t)) 0) (outcome 10 0 []) (outcome 9 (length (shownOf t)) (shownOf t))
-pub fn stopped(t: &[u64]) -> Outcome {
-    let shown = shown_of(t);
-    if length(&shown) == 0 {
-        outcome(10, 0, vec![])
-    } else {
-        outcome(9, length(&shown), shown)
-    }
-}
-
 //| unfoldable pub settled : List ℕ → Outcome
 //| settled t =
-//|     cond (eqb (length (placedOf t)) (callCount t)) (outcome 0 (callCount t) (placedOf t)) (stopped t)
+//|     cond (eqb (length (placedOf t)) (callCount t)) (outcome 0 (callCount t) (placedOf t))
+//|     (outcome 9 (length (shownOf t)) (shownOf t))
 pub fn settled(t: &[u64]) -> Outcome {
     let placed = placed_of(t);
     if length(&placed) == call_count(t) {
         outcome(0, call_count(t), placed)
     } else {
-        stopped(t)
+        outcome(9, length(&shown_of(t)), shown_of(t))
     }
 }
 

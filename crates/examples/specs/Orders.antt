@@ -6,7 +6,7 @@ use Rattle.table.specs.Outcome.{outcome}
 use Rattle.calls.specs.Computed.{words as call-words}
 use Rattle.orders.specs.Computed.{words as order-words}
 use Rattle.placing.specs.Placing.{placedOf}
-use Rattle.sorter.specs.Ordering.{shownOf, stopped, settled, ordering}
+use Rattle.sorter.specs.Ordering.{shownOf, settled, ordering}
 
 pub starred-orders :
     (ordering A 6 ≡ outcome 0 6 (0 ∷ 2 ∷ 5 ∷ 1 ∷ 3 ∷ 4 ∷ []))
@@ -17,5 +17,5 @@ pub starred-orders :
     × (ordering alone 1 ≡ outcome 0 1 (0 ∷ []))
     × (ordering (itself 0) 3 ≡ outcome 0 3 (0 ∷ 1 ∷ 2 ∷ []))
     × (ordering (itself 1) 3 ≡ outcome 9 3 (0 ∷ 1 ∷ 2 ∷ []))
-unfolding call-words order-words placedOf shownOf stopped settled ordering
+unfolding call-words order-words placedOf shownOf settled ordering
 starred-orders = (refl, refl, refl, refl, refl, refl, refl, refl)

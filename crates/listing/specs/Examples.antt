@@ -40,7 +40,7 @@ use Rattle.orders.specs.Sort.{ready, nextCall, sort, placed}
 use Rattle.orders.specs.Walk.{upto, lowestBefore, walk, lowestLeft, met}
 use Rattle.orders.specs.Turn.{lowestOf, lowestPlace, shown}
 use Rattle.placing.specs.Placing.{placedOf}
-use Rattle.sorter.specs.Ordering.{shownOf, stopped as shownOrNot, settled, ordering}
+use Rattle.sorter.specs.Ordering.{shownOf, settled, ordering}
 use Rattle.grammar.specs.Quoted.{ascii}
 use Rattle.grammar.specs.Words.{same, allowed}
 use Rattle.grammar.specs.Rows.{grown, parted, rows, word, place, times, lineOf, firstBad}
@@ -144,7 +144,7 @@ pub examples :
 unfolding every some leastFrom units outputs inputs feeds outputOwners inputOwners kinds sources
     feedBytes asked checkRefuse countsIn allBelow isPair feedKnown feedAgain feedsFrom wiring refusal callIn
     feedsTo hasKind byKind before precedes ready nextCall sort placed upto
-    lowestBefore walk lowestLeft met lowestOf lowestPlace shown placedOf shownOf shownOrNot settled
+    lowestBefore walk lowestLeft met lowestOf lowestPlace shown placedOf shownOf settled
     ordering allowed same grown parted rows word place times lineOf firstBad blank unitNamed outputNamed
     inputNamed feedOf loose known addUnit addOutput addInput addFeed
     joined addJoin refused refuse taken isName faulty kindOf unitLine outLine inLine feedLine joinLine

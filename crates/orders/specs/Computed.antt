@@ -9,11 +9,12 @@ use Rattle.search.specs.Least.{leastFrom}
 use Rattle.orders.specs.Sort.{ready, nextCall, sort, placed}
 use Rattle.orders.specs.Walk.{among, upto, lowestBefore, walk, lowestLeft, met}
 use Rattle.orders.specs.Turn.{lowestOf, lowestPlace, shown}
+use Rattle.orders.specs.Meets.{visit, seen}
 
 -- all that orders and cycles are computed with: `unfolding words` opens each of them
 unfoldable pub words : Unit {0}
 unfolding every some leastFrom ready nextCall sort placed
-    upto lowestBefore walk lowestLeft met lowestOf lowestPlace shown
+    upto lowestBefore walk lowestLeft met lowestOf lowestPlace shown visit
 words = tt
 
 -- the calls of each pair, the first a direct predecessor of the second
@@ -41,3 +42,10 @@ pub cycles :
     × (shown 3 (pairs ((1, 2) ∷ (2, 1) ∷ (1, 0) ∷ [])) (among []) ≡ 1 ∷ 2 ∷ [])
 unfolding words
 cycles = (refl, refl)
+
+-- the visits of both walks, the newest first: the call met again is the last visited, and among those before it
+pub walks :
+    (seen 6 (C ((4, 2) ∷ (5, 3) ∷ [])) (among (0 ∷ 1 ∷ [])) 5 ≡ 2 ∷ 5 ∷ 3 ∷ 4 ∷ 2 ∷ [])
+    × (seen 3 (pairs ((1, 2) ∷ (2, 1) ∷ (1, 0) ∷ [])) (among []) 4 ≡ 1 ∷ 2 ∷ 1 ∷ 0 ∷ [])
+unfolding words
+walks = (refl, refl)

@@ -4,6 +4,7 @@ pub mod First
 pub mod Sort
 pub mod Walk
 pub mod Turn
+pub mod Meets
 pub mod Computed
 pub mod Follows
 pub mod Apart
@@ -12,6 +13,6 @@ pub mod Sorted
 pub mod Walked
 pub mod Remains
 pub mod Turned
+pub mod Again
 pub mod Once
-pub mod Seen
 pub mod Shown

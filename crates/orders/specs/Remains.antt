@@ -7,12 +7,12 @@ use native.Mathlib.Omega.{arith}
 use native.Mathlib.Decide.{decLt}
 use lib.Dec.{T, eqb}
 use lib.ListN.{length, getD}
-use Rattle.search.specs.Truth.{T-and, not-not}
+use Rattle.search.specs.Truth.{T-and, clash, not-not}
 use Rattle.search.specs.Sets.{none, add}
 use Rattle.search.specs.Least.{leastFrom, lowest-is}
 use Rattle.search.specs.Count.{count, count-le, count-none, count-add, count-all}
-use Rattle.orders.specs.Sort.{lacks, nextCall, sort, placed}
-use Rattle.orders.specs.Sorted.{next-is, sort-step, sort-stop}
+use Rattle.orders.specs.Sort.{lacks, ready, nextCall, sort, placed}
+use Rattle.orders.specs.Sorted.{Ready→ready, next-is, sort-step, sort-stop}
 use Rattle.orders.specs.Walk.{among}
 use Rattle.orders.specs.Walked.{Stuck}
 
@@ -55,16 +55,16 @@ module _ (N : ℕ) (pred : ℕ → ℕ → Bool) where
   ]
 
   -- where none is ready, each remaining call has a remaining direct predecessor
-  none-ready : (done : ℕ → Bool) → N ≤ nextCall N pred done → Stuck N pred done
-  none-ready done h c hc t =
+  pub none-ready : (done : ℕ → Bool) → ((c : ℕ) → c < N → T (not (ready N pred done c))) → Stuck N pred done
+  none-ready done none c hc t =
       let l = lowest-is (lacks pred done c) N in
       let a = leastFrom (lacks pred done c) N 0 in
       elim (decLt a N) [
         | yes p ↦ (let (u, v) = T-and (pred a c) (not (done a)) (l .passes p) in (a, p, u, v))
         | no p ↦
             absurd
-            (let z = next-is N pred done .least c (t, λ b hb u. go (pred b c) (done b) u (l .below b (omega arith))) hc in
-            omega arith)
+            (clash (ready N pred done c)
+            (Ready→ready N pred done c (t, λ b hb u. go (pred b c) (done b) u (l .below b (omega arith)))) (none c hc))
       ]
     where
       go : (p q : Bool) → T p → T (not (p && not q)) → T q
@@ -73,10 +73,12 @@ module _ (N : ℕ) (pred : ℕ → ℕ → Bool) where
 
   sort-stuck : (n : ℕ) (done : ℕ → Bool) → N ≤ n + count done N
       → length (sort N pred n done) + count done N < N → Stuck N pred (both (sort N pred n done) done)
-  unfolding sort
+  unfolding sort nextCall
   sort-stuck zero done e h = absurd (omega arith)
   sort-stuck (suc n) done e h = elim (decLt (nextCall N pred done) N) [
-    | no p ↦ rw (sort-stop N pred (suc n) done (omega arith)) (none-ready done (omega arith))
+    | no p ↦
+        rw (sort-stop N pred (suc n) done (omega arith))
+        (none-ready done (λ c hc. lowest-is (ready N pred done) N .below c (omega arith)))
     | yes p ↦
         (let c = nextCall N pred done in
         let q = sort-step N pred n done p in

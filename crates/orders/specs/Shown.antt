@@ -2,8 +2,8 @@
 use mathlib.Core.Path.{_≡_}
 use mathlib.Core.Logic.{_↔_}
 use mathlib.Core.Bool.{Bool}
-use mathlib.Core.List.{List, []}
-use Prim.Native.Nat.{ℕ, suc, _≤_, _<_}
+use mathlib.Core.List.{List}
+use Prim.Native.Nat.{ℕ, _≤_, _<_}
 use native.Mathlib.Omega.{arith}
 use native.Mathlib.Decide.{decLt}
 use lib.ListN.{length, getD}
@@ -12,12 +12,11 @@ use Rattle.orders.specs.First.{First}
 use Rattle.orders.specs.Apart.{apart}
 use Rattle.orders.specs.Sort.{placed}
 use Rattle.orders.specs.Sorted.{placed-first}
-use Rattle.orders.specs.Remains.{placed-le, placed-stuck, left-one}
-use Rattle.orders.specs.Walk.{among, lowestLeft, met}
-use Rattle.orders.specs.Walked.{met-is}
+use Rattle.orders.specs.Remains.{placed-le}
+use Rattle.orders.specs.Walk.{among, met}
+use Rattle.orders.specs.Again.{placed-meets, met-cycle, met-once}
 use Rattle.orders.specs.Turn.{lowestPlace, shown}
 use Rattle.orders.specs.Turned.{Once, turn-length, turn-cycle, turn-once, lowestPlace-is, lowest-first}
-use Rattle.orders.specs.Seen.{new-once, walk-new}
 
 module _ (N : ℕ) (pred : ℕ → ℕ → Bool) where
   -- a cycle that begins with its lowest call and has no call twice
@@ -27,19 +26,17 @@ module _ (N : ℕ) (pred : ℕ → ℕ → Bool) where
     pub once : Once l
 
   pub shown-is : length (placed N pred) < N → Shown (shown N pred (among (placed N pred)))
-  unfolding shown met
+  unfolding shown
   shown-is h =
       let done = among (placed N pred) in
       let m = met N pred done in
-      let (c, hc, t) = left-one N pred h in
-      let cy = met-is N pred done (placed-stuck N pred h) c hc t in
+      let cy = met-cycle N pred done (placed-meets N pred h) in
       let p = lowestPlace-is N m (cy .any) (cy .calls) .0 in
       let e = turn-length (lowestPlace N m) m p in
       record {
         cycle = turn-cycle (lowestPlace N m) m p N pred cy;
         lowest = λ i hi. lowest-first N m (cy .any) (cy .calls) i (omega arith);
-        once = turn-once (lowestPlace N m) m p
-            (new-once m (walk-new N pred done (suc N) [] (lowestLeft N pred done) tt));
+        once = turn-once (lowestPlace N m) m p (met-once N pred done (placed-meets N pred h));
       }
 
   -- ---- demand 2

@@ -2,7 +2,7 @@
 use mathlib.Core.Bool.{Bool, false, not, _||_, cond}
 use mathlib.Core.List.{List, [], _∷_}
 use Prim.Native.Nat.{ℕ, zero, suc}
-use lib.Dec.{eqb, ltb}
+use lib.Dec.{eqb}
 use Rattle.search.specs.Least.{leastFrom}
 use Rattle.orders.specs.Sort.{lacks}
 
@@ -11,7 +11,7 @@ abbrev pub among : List ℕ → ℕ → Bool
 among [] c = false
 among (x ∷ l) c = eqb c x || among l c
 
--- the front of the list up to c, and c
+-- the front of the list up to c, and c; the whole list where c is not in it
 unfoldable pub upto : ℕ → List ℕ → List ℕ
 upto c [] = []
 upto c (x ∷ l) = cond (eqb c x) (x ∷ []) (x ∷ upto c l)
@@ -22,15 +22,15 @@ module _ (N : ℕ) (pred : ℕ → ℕ → Bool) (done : ℕ → Bool) where
   lowestBefore c = leastFrom (lacks pred done c) N 0
 
   -- on to a call where the walk has been; seen has the newest first, so it stands in precedence order;
-  -- n bounds the visits: of N + 1 calls one is met again
+  -- n bounds the visits: N + 1 are enough where no call is ready and one remains (`walk-meets` of Again)
   unfoldable pub walk : ℕ → List ℕ → ℕ → List ℕ
   walk zero seen c = []
-  walk (suc n) seen c = cond (ltb c N) (cond (among seen c) (upto c seen) (walk n (c ∷ seen) (lowestBefore c))) []
+  walk (suc n) seen c = cond (among seen c) (upto c seen) (walk n (c ∷ seen) (lowestBefore c))
 
   -- where the walk begins: the lowest call that remains; N where none does
   unfoldable pub lowestLeft : ℕ
   lowestLeft = leastFrom (λ c. not (done c)) N 0
 
-  -- the call met again and those visited after it, newest first; none where the walk meets no call again
+  -- where no call is ready and one remains: the call met again and those visited after it, newest first
   unfoldable pub met : List ℕ
   met = walk (suc N) [] lowestLeft

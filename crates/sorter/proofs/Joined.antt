@@ -1,6 +1,6 @@
 -- The order's answer joined from what was placed.
 use mathlib.Core.Path.{_≡_, refl, sym, ap, _∙_}
-use mathlib.Core.List.{List, [], _∷_, append-nil}
+use mathlib.Core.List.{List, [], append-nil}
 use Prim.Native.Nat.{ℕ, _≤_, _<_}
 use native.Mathlib.Omega.{arith}
 use native.Mathlib.Decide.{ℕ-discrete}
@@ -18,7 +18,7 @@ use Rattle.table.specs.Outcome.{Outcome, outcome}
 use Rattle.placing.specs.Placing.{callCount, placedOf, placing}
 use Rattle.placing.specs.Placed.{placing-unsound, placing-done}
 use Rattle.sorter.specs.Ordering.{shownOf, ordering}
-use Rattle.sorter.specs.Answers.{ordering-short, ordering-settled, settled-all, settled-some, stopped-none, stopped-shown}
+use Rattle.sorter.specs.Answers.{ordering-short, ordering-settled, settled-all, settled-some}
 
 -- what was placed, where the table is sound
 pub placing-is : (t : List ℕ) → refusal t ≡ 0 → placing t 224 ≡ outcome 0 (length (placedOf t)) (placedOf t)
@@ -51,6 +51,14 @@ pub placed-most : (t : List ℕ) → length (placedOf t) ≤ callCount t
 unfolding placedOf
 placed-most t = placed-le (callCount t) (precedes (shapeOf t))
 
+-- not all of them is fewer
+pub placed-early : (t : List ℕ) (k count : ℕ) → k ≡ length (placedOf t) → count ≡ callCount t
+    → (k ≡ count → ⊥) → k < count
+placed-early t k count e n some = elim (ℕ-discrete k count) [
+  | yes all ↦ absurd (some all)
+  | no ne ↦ omega (arith, placed-most t)
+]
+
 pub calls-long : (t calls zeros : List ℕ) → refusal t ≡ 0 → length zeros ≡ 224
     → calls ≡ fronted (placing t 224 .bytes) zeros → length calls ≡ 224
 calls-long t calls zeros z l e =
@@ -74,24 +82,11 @@ module _ (t : List ℕ) (room count : ℕ) (z : refusal t ≡ 0) (n : count ≡ 
       ∙ settled-all t (e ∙ n)
       ∙ ap (λ k. outcome 0 k (placedOf t)) (sym n)
 
-  pub order-none : count ≤ room → (length (placedOf t) ≡ count → ⊥) → (k : ℕ) → k ≡ length (shownOf t) → k ≡ 0
-      → ordering t room ≡ outcome 10 0 (shownOf t)
-  order-none h d k e f =
+  pub order-cycle : count ≤ room → (p : ℕ) → p ≡ length (placedOf t) → (p ≡ count → ⊥) → (k : ℕ)
+      → k ≡ length (shownOf t) → ordering t room ≡ outcome 9 k (shownOf t)
+  order-cycle h p many some k e =
       ordering-settled t room z (omega arith)
-      ∙ settled-some t (λ y. d (y ∙ sym n))
-      ∙ stopped-none t (sym e ∙ f)
-      ∙ ap (outcome 10 0) (sym (no-length (shownOf t) (sym e ∙ f)))
-    where
-      no-length : (l : List ℕ) → length l ≡ 0 → l ≡ []
-      no-length [] y = refl
-      no-length (x ∷ l) y = absurd (omega arith)
-
-  pub order-cycle : count ≤ room → (length (placedOf t) ≡ count → ⊥) → (k : ℕ) → k ≡ length (shownOf t)
-      → (k ≡ 0 → ⊥) → ordering t room ≡ outcome 9 k (shownOf t)
-  order-cycle h d k e f =
-      ordering-settled t room z (omega arith)
-      ∙ settled-some t (λ y. d (y ∙ sym n))
-      ∙ stopped-shown t (λ y. f (e ∙ y))
+      ∙ settled-some t (λ all. some (many ∙ all ∙ sym n))
       ∙ ap (λ j. outcome 9 j (shownOf t)) (sym e)
 
 -- a list turned at its front is itself

@@ -10,7 +10,7 @@ use Rattle.search.specs.Truth.{is-true, is-false, eq-true, eq-false}
 use Rattle.table.specs.Check.{refusal}
 use Rattle.table.specs.Outcome.{Outcome, outcome}
 use Rattle.placing.specs.Placing.{callCount, placedOf}
-use Rattle.sorter.specs.Ordering.{shownOf, stopped, settled, ordering}
+use Rattle.sorter.specs.Ordering.{shownOf, settled, ordering}
 
 module _ (t : List ℕ) (room : ℕ) where
   pub ordering-unsound : (refusal t ≡ 0 → ⊥) → ordering t room ≡ outcome (refusal t) 0 []
@@ -31,38 +31,28 @@ module _ (t : List ℕ) where
   settled-all e =
       rw (is-true (eqb (length (placedOf t)) (callCount t)) (eq-true (length (placedOf t)) (callCount t) e))
 
-  pub settled-some : (length (placedOf t) ≡ callCount t → ⊥) → settled t ≡ stopped t
+  pub settled-some : (length (placedOf t) ≡ callCount t → ⊥)
+      → settled t ≡ outcome 9 (length (shownOf t)) (shownOf t)
   unfolding settled
   settled-some n =
       rw (is-false (eqb (length (placedOf t)) (callCount t)) (eq-false (length (placedOf t)) (callCount t) n))
-
-  pub stopped-none : length (shownOf t) ≡ 0 → stopped t ≡ outcome 10 0 []
-  unfolding stopped
-  stopped-none e = rw e
-
-  pub stopped-shown : (length (shownOf t) ≡ 0 → ⊥) → stopped t ≡ outcome 9 (length (shownOf t)) (shownOf t)
-  unfolding stopped
-  stopped-shown n = rw (is-false (eqb (length (shownOf t)) 0) (eq-false (length (shownOf t)) 0 n))
 
 abbrev Long : Outcome → Type 0
 Long o = o .answer .place ≡ length (o .bytes)
 
 -- the place tells how many bytes are written
 pub ordering-long : (t : List ℕ) (room : ℕ) → ordering t room .answer .place ≡ length (ordering t room .bytes)
-unfolding ordering settled stopped
+unfolding ordering settled
 ordering-long t room =
     go (eqb (refusal t) 0) (leb (callCount t) room) (eqb (length (placedOf t)) (callCount t)) refl
-    (eqb (length (shownOf t)) 0)
   where
-    go : (a b c : Bool) → eqb (length (placedOf t)) (callCount t) ≡ c → (d : Bool) → Long
+    go : (a b c : Bool) → eqb (length (placedOf t)) (callCount t) ≡ c → Long
         (cond a
         (cond b
-        (cond c (outcome 0 (callCount t) (placedOf t))
-        (cond d (outcome 10 0 []) (outcome 9 (length (shownOf t)) (shownOf t))))
+        (cond c (outcome 0 (callCount t) (placedOf t)) (outcome 9 (length (shownOf t)) (shownOf t)))
         (outcome 8 0 []))
         (outcome (refusal t) 0 []))
-    go false b c e d = refl
-    go true false c e d = refl
-    go true true true e d = sym (eqb-true _ _ e)
-    go true true false e true = refl
-    go true true false e false = refl
+    go false b c e = refl
+    go true false c e = refl
+    go true true true e = sym (eqb-true _ _ e)
+    go true true false e = refl

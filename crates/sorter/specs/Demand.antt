@@ -22,7 +22,7 @@ use Rattle.table.specs.Outcome.{Outcome, outcome}
 use Rattle.placing.specs.Placing.{callCount, placedOf}
 use Rattle.sorter.specs.Ordering.{shownOf, ordering}
 use Rattle.sorter.specs.OrderOrCycle.{OrderOrCycle}
-use Rattle.sorter.specs.Answers.{ordering-settled, settled-all, settled-some, stopped-shown, ordering-long}
+use Rattle.sorter.specs.Answers.{ordering-settled, settled-all, settled-some, ordering-long}
 
 module _ (t : List ℕ) (room : ℕ) (sound : Sound t) (enough : callCount t ≤ room) where
   -- a cycle of the table's calls
@@ -55,12 +55,7 @@ module _ (t : List ℕ) (room : ℕ) (sound : Sound t) (enough : callCount t ≤
       → (ordering t room ≡ outcome 9 (length (shownOf t)) (shownOf t))
       × Shown (callCount t) (precedes (shapeOf t)) (shownOf t)
   not-placed n =
-      let c = cycle-shown n in (
-        ordering-settled t room (sound-passed t sound) enough
-            ∙ settled-some t n
-            ∙ stopped-shown t (λ z. omega (arith, c .cycle .any)),
-        c,
-      )
+      (ordering-settled t room (sound-passed t sound) enough ∙ settled-some t n, cycle-shown n)
 
   -- the number is 0 exactly when no cycle exists, and then the bytes are the first order
   pub order-iff : (ordering t room .answer .number ≡ 0) ↔ ((cs : List ℕ) → IsCycle cs → ⊥)
@@ -92,7 +87,7 @@ module _ (t : List ℕ) (room : ℕ) (sound : Sound t) (enough : callCount t ≤
         omega arith)
   ]
 
-  -- otherwise the number is 9 and the bytes are a cycle: 10 is never given
+  -- otherwise the number is 9 and the bytes are a cycle
   pub order-else : (ordering t room .answer .number ≡ 0 → ⊥)
       → (ordering t room .answer .number ≡ 9)
       × (ordering t room .answer .place ≡ length (ordering t room .bytes))

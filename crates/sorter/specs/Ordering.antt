@@ -12,19 +12,17 @@ use Rattle.orders.specs.Turn.{shown}
 use Rattle.table.specs.Outcome.{Outcome, outcome}
 use Rattle.placing.specs.Placing.{callCount, placedOf}
 
--- the cycle of what remains
+-- the cycle of what remains, where not all can be placed
 unfoldable pub shownOf : List ℕ → List ℕ
 shownOf t = shown (callCount t) (precedes (shapeOf t)) (among (placedOf t))
 
--- 9 with the cycle's length; 10 where the walk lists nothing, which no table gives (`order-else` of Demand)
-unfoldable pub stopped : List ℕ → Outcome
-stopped t = cond (eqb (length (shownOf t)) 0) (outcome 10 0 []) (outcome 9 (length (shownOf t)) (shownOf t))
-
--- 0 with N where all were placed
+-- 0 with N where all were placed; else 9 with the cycle's length
 unfoldable pub settled : List ℕ → Outcome
-settled t = cond (eqb (length (placedOf t)) (callCount t)) (outcome 0 (callCount t) (placedOf t)) (stopped t)
+settled t =
+    cond (eqb (length (placedOf t)) (callCount t)) (outcome 0 (callCount t) (placedOf t))
+    (outcome 9 (length (shownOf t)) (shownOf t))
 
--- 1 to 7; then 8 where there is no room for N calls; then 0, 9 or 10
+-- 1 to 7; then 8 where there is no room for N calls; then 0 or 9
 unfoldable pub ordering : List ℕ → ℕ → Outcome
 ordering t room =
     cond (eqb (refusal t) 0)

@@ -36,13 +36,13 @@ fn write_met(seen: &[u8], call: u8, count: u8, out: &mut [u8]) -> usize
     length
 }
 
-// Writes the cycle of what remains at the front of `out`; gives its length, 0 where the walk meets none.
+// Writes the cycle of what remains at the front of `out`; gives its length.
 // `calls` holds the placed calls; once they are marked it serves as the walk's path.
 fn show_cycle(table: &[u8], count: usize, placed: usize, calls: &mut [u8], out: &mut [u8]) -> usize
     requires { ⌜ Sound (now table) ⌝ }
     requires { ⌜ count ≡ callCount (now table) ⌝ }
     requires { ⌜ length (now calls) ≡ 224 ⌝ }
-    requires { ⌜ placed ≤ 224 ⌝ }
+    requires { ⌜ placed < count ⌝ }
     requires { ⌜ take placed (now calls) ≡ placedOf (now table) ⌝ }
     requires { ⌜ count ≤ length (now out) ⌝ }
     ensures { λ r. ⌜ r ≡ length (shownOf (now (table .entry))) ⌝ }
@@ -53,9 +53,6 @@ fn show_cycle(table: &[u8], count: usize, placed: usize, calls: &mut [u8], out: 
     let met = walk_back(table, count, &marks, calls);
     let at = met.at;
     let call = met.call;
-    if count <= call {
-        return 0;
-    }
     write_met(&calls[at..], call as u8, count as u8, out)
 }
 
@@ -88,12 +85,6 @@ pub fn order(table: &[u8], out: &mut [u8]) -> Answer
         };
     }
     let length = show_cycle(table, count, placed, &mut calls, out);
-    if length == 0 {
-        return Answer {
-            number: 10,
-            place: 0,
-        };
-    }
     Answer {
         number: 9,
         place: length,

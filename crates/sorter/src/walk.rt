@@ -6,12 +6,12 @@ ghost use lib.ListN.{length, getD};
 ghost use Rattle.search.specs.Least.{leastFrom};
 ghost use Rattle.table.specs.Sound.{Sound};
 ghost use Rattle.orders.specs.Walk.{among};
-ghost use Rattle.placing.specs.Placing.{callCount};
+ghost use Rattle.placing.specs.Placing.{callCount, placedOf};
 ghost use Rattle.sorter.specs.Marks.{marked};
 ghost use Rattle.sorter.specs.Trail.{Walked};
 use crate::back::lowest_before;
 
-// Where the walk stands on its path, and the call that it comes to.
+// Where the walk stands on its path, and the call that it meets again.
 pub struct Met {
     pub at: usize,
     pub call: usize,
@@ -50,16 +50,15 @@ fn lowest_left(marks: &[u8; 224], count: usize) -> usize
 pub fn walk_back(table: &[u8], count: usize, marks: &[u8; 224], path: &mut [u8]) -> Met
     requires { ⌜ Sound (now table) ⌝ }
     requires { ⌜ count ≡ callCount (now table) ⌝ }
+    requires { ⌜ length (placedOf (now table)) < count ⌝ }
+    requires { ⌜ marked (now marks) ≡ among (placedOf (now table)) ⌝ }
     requires { ⌜ length (now path) ≡ 224 ⌝ }
-    ensures { λ r. ⌜ Walked (now (table .entry)) (marked (now (marks .entry))) (now (path .exit)) (r .at) (r .call) ⌝ }
+    ensures { λ r. ⌜ Walked (now (table .entry)) (now (path .exit)) (r .at) (r .call) ⌝ }
 {
     let mut seen: [u8; 224] = [0; 224];
     let mut at: usize = 224;
     let mut call = lowest_left(marks, count);
-    while call < count {
-        if seen[call] != 0 {
-            return Met { at: at, call: call };
-        }
+    while seen[call] == 0 {
         at -= 1;
         path[at] = call as u8;
         seen[call] = 1;

@@ -13,8 +13,9 @@ use crate::transcribed::grammar::reading::{reading, stopped};
 use crate::transcribed::grammar::rows::{ascii, rows, word};
 use crate::transcribed::judge::{answered_at, fresh, TakenInTurn};
 use crate::transcribed::judging::{answer, at_end, verdict_from, verdict_of, Passes, Tells};
-use crate::transcribed::library::{length, permutations, take};
-use crate::transcribed::orders::{Keeps, Shown};
+use crate::transcribed::library::{any, each, length, permutations, take};
+use crate::transcribed::orders::{among, met, ready, seen, Keeps, MeetsAgain, Shown};
+use crate::transcribed::placing::placed_of;
 use crate::transcribed::reading::{
     input_number, numbered, output_number, source_number, unit_number, InOrder, Lined,
 };
@@ -92,7 +93,7 @@ fn every_permutation() {
         let (number, place) = (given.answer.number, given.answer.place);
         let wrong = [&[total(&s)], &given.bytes[1..]].concat();
         assert!(!OrderOrCycle(&t, given.answer, &wrong), "{:?}", t);
-        for other in [9 - number, 10] {
+        for other in [9 - number, 8] {
             assert!(!OrderOrCycle(&t, answer(other, place), &given.bytes), "{:?}", t);
         }
         ordered.count(given.answer.number as usize);
@@ -107,6 +108,33 @@ fn every_permutation() {
     }
     ordered.finish([0, 9], rounds / 4000);
     tally.finish([0, 13, 14, 15, 16, 17], rounds / 4000);
+}
+
+/// Where no call is ready and one remains the walk meets one call again, and lists what it visits from there on;
+/// where none remains it meets none.
+#[test]
+fn walk_meets_again() {
+    let ((rounds, mut random), mut tally) =
+        (fuzzing(90), Tally::new("walks that meet a call again"));
+    for round in 0..rounds / 5 {
+        let t = numbers(&tiny(&mut random, 12).packed());
+        let (s, mut placed) = (shape_of(&t), placed_of(&t));
+        let count = total(&s);
+        if round % 2 == 1 {
+            placed.extend((0..count).filter(|_| random.percent(20)));
+        }
+        let (pred, done) = (|a, b| Precedes(&s, a, b), |c| among(&placed, c));
+        let (meets, some) = (MeetsAgain(count, &pred, &done), any(count, &|c| !done(c)));
+        if some && each(count, &|c| !ready(count, &pred, &done, c)) {
+            assert_eq!(meets.len(), 1, "{:?} placed of {:?}", placed, t);
+            let (first, again) = meets[0];
+            let visited = seen(count, &pred, &done, again);
+            assert_eq!(met(count, &pred, &done), take(again - first, &visited), "{:?}", t);
+        }
+        assert!(some || meets.is_empty(), "{:?}", t);
+        tally.count(meets.len());
+    }
+    tally.finish(0..=1, rounds / 4000);
 }
 
 /// On small tables what C gets and the buffer it lent tell the first order or a cycle; a wrong one does not.

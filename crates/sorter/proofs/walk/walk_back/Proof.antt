@@ -1,145 +1,109 @@
--- The trail holds at the start and after each call, and says where the walk ends.
+-- The trail holds at the start and after each call, and is met again where the walk ends.
 use Rattle.sorter.proofs.walk.walk_back.Statement.{statement}
 use Rattle.sorter.proofs.walk.walk_back.Tie as tie
+use Prim.Native.Nat.{_<_}
 use mathlib.Core.Path.{refl, sym, _∙_}
 use native.Mathlib.Omega.{arith}
+use lib.ListN.{length}
 use Rattle.table.specs.Checked.{few-calls}
+use Rattle.placing.specs.Placing.{callCount, placedOf}
 use Rattle.placing.proofs.Stage.{zeros}
-use Rattle.sorter.specs.Marks.{marked}
-use Rattle.sorter.proofs.Trails.{Trail, trail-starts, trail-room, trail-on, trail-met, trail-lost, left-is}
+use Rattle.sorter.proofs.Trails.{Trail, trail-starts, trail-room, trail-on, trail-met, left-is, before-is}
 
 abbrev Inv-loop : tie.InvT-loop
-Inv-loop table count marks path₀ seen₀ at₀ call₀ path seen at call =
-    Trail table (marked marks) path seen at call
+Inv-loop table count marks path₀ seen₀ at₀ call₀ path seen at call = Trail table path seen at call
 
 abbrev μ-loop : tie.MeasureT-loop
 μ-loop table count marks path₀ seen₀ at₀ call₀ path seen at call = at
 
 lowest-left-requires : tie.Need-lowest-left-requires Inv-loop μ-loop
 lowest-left-requires c κs =
-    omega (
-      arith,
-      c .before .before .pre .1 .0,
-      few-calls (c .before .before .args .table .now) (c .before .before .pre .0),
-    )
+    let start = c .before .before in
+    let table = start .args .table .now in
+    omega (arith, start .pre .1 .0, few-calls table (start .pre .0))
 
 loop-holds : tie.Need-loop-holds Inv-loop μ-loop
 loop-holds c =
-    trail-starts (c .before .before .before .args .table .now)
-    (marked (c .before .before .before .args .marks .now)) (c .before .before .before .args .path .now) _ _
-    (c .before .before .before .pre .1 .1) refl (zeros 224)
-    (left-is (c .before .before .before .args .table .now) (c .before .before .before .args .marks .now) _ _
-    (c .before .before .before .pre .1 .0) (c .lowest-left .ensures))
+    let start = c .before .before .before in
+    let table = start .args .table .now in
+    let early : length (placedOf table) < callCount table = omega (arith, start .pre .1 .0, start .pre .1 .1 .0) in
+    trail-starts table early (start .args .path .now) _ _ (start .pre .1 .1 .1 .1) refl (zeros 224)
+    (left-is table (start .args .marks .now) _ _ (start .pre .1 .0) (start .pre .1 .1 .1 .0) (c .lowest-left .ensures))
 
-array-read-if1 : tie.Need-array-read-if1 Inv-loop μ-loop
-array-read-if1 c =
-    omega (
-      arith,
-      c .loop-test .taken,
-      c .before .before .before .before .before .pre .1 .0,
-      few-calls (c .before .before .before .before .before .args .table .now)
-          (c .before .before .before .before .before .pre .0),
-    )
-
-same-length : tie.Need-same-length Inv-loop μ-loop
-same-length c =
-    c .before .before .loop .inv .long ∙ sym (c .before .before .before .before .before .before .pre .1 .1)
-
-returns : tie.Need-returns Inv-loop μ-loop
-returns c =
-    trail-met (c .before .before .before .before .before .before .args .table .now)
-    (marked (c .before .before .before .before .before .before .args .marks .now))
-    (few-calls (c .before .before .before .before .before .before .args .table .now)
-    (c .before .before .before .before .before .before .pre .0)) _ _ _ _ (c .before .before .loop .inv)
-    (omega (arith, c .before .loop-test .taken, c .before .before .before .before .before .before .pre .1 .0))
-    (c .if1 .taken)
+array-read-loop : tie.Need-array-read-loop Inv-loop μ-loop
+array-read-loop c =
+    let start = c .before .before .before .before in
+    let table = start .args .table .now in
+    let few = few-calls table (start .pre .0) in
+    omega (arith, c .loop .inv .here, few)
 
 sub-at : tie.Need-sub-at Inv-loop μ-loop
 sub-at c =
-    trail-room (c .before .before .before .before .before .before .args .table .now)
-    (marked (c .before .before .before .before .before .before .args .marks .now))
-    (few-calls (c .before .before .before .before .before .before .args .table .now)
-    (c .before .before .before .before .before .before .pre .0)) _ _ _ _ (c .before .before .loop .inv)
-    (omega (arith, c .before .loop-test .taken, c .before .before .before .before .before .before .pre .1 .0))
-    (c .if1 .left)
+    let start = c .before .before .before .before .before in
+    let table = start .args .table .now in
+    let early : length (placedOf table) < callCount table = omega (arith, start .pre .1 .0, start .pre .1 .1 .0) in
+    let few = few-calls table (start .pre .0) in
+    let trail = c .before .loop .inv in
+    trail-room table early few _ _ _ _ trail (c .loop-test .taken)
 
 cast-path : tie.Need-cast-path Inv-loop μ-loop
 cast-path c =
-    let f =
-    few-calls (c .before .before .before .before .before .before .args .table .now)
-    (c .before .before .before .before .before .before .pre .0) in
-    record
-    { fits = omega (arith, c .before .loop-test .taken, c .before .before .before .before .before .before .pre .1 .0) }
+    let start = c .before .before .before .before .before in
+    let table = start .args .table .now in
+    let few = few-calls table (start .pre .0) in
+    record { fits = omega (arith, c .before .loop .inv .here, few) }
 
 slice-write-path : tie.Need-slice-write-path Inv-loop μ-loop
 slice-write-path c =
-    omega (
-      arith,
-      c .before .before .loop .inv .place,
-      c .before .before .loop .inv .long,
-      trail-room (c .before .before .before .before .before .before .args .table .now)
-          (marked (c .before .before .before .before .before .before .args .marks .now))
-          (few-calls (c .before .before .before .before .before .before .args .table .now)
-          (c .before .before .before .before .before .before .pre .0)) _ _ _ _ (c .before .before .loop .inv)
-          (omega (arith, c .before .loop-test .taken, c .before .before .before .before .before .before .pre .1 .0))
-          (c .if1 .left),
-    )
+    let start = c .before .before .before .before .before in
+    let table = start .args .table .now in
+    let early : length (placedOf table) < callCount table = omega (arith, start .pre .1 .0, start .pre .1 .1 .0) in
+    let few = few-calls table (start .pre .0) in
+    let trail = c .before .loop .inv in
+    omega (arith, trail .place, trail .long, trail-room table early few _ _ _ _ trail (c .loop-test .taken))
 
 array-write-seen : tie.Need-array-write-seen Inv-loop μ-loop
 array-write-seen c =
-    omega (
-      arith,
-      c .before .loop-test .taken,
-      c .before .before .before .before .before .before .pre .1 .0,
-      few-calls (c .before .before .before .before .before .before .args .table .now)
-          (c .before .before .before .before .before .before .pre .0),
-    )
+    let start = c .before .before .before .before .before in
+    let table = start .args .table .now in
+    let few = few-calls table (start .pre .0) in
+    omega (arith, c .before .loop .inv .here, few)
 
 lowest-before-requires : tie.Need-lowest-before-requires Inv-loop μ-loop
-lowest-before-requires c κs = (
-  c .before .before .before .before .before .before .pre .0,
-  omega (arith, c .before .loop-test .taken, c .before .before .before .before .before .before .pre .1 .0),
-)
+lowest-before-requires c κs =
+    (c .before .before .before .before .before .pre .0, c .before .loop .inv .here)
 
 loop-less : tie.Need-loop-less Inv-loop μ-loop
 loop-less c =
-    omega (
-      arith,
-      trail-room (c .before .before .before .before .before .before .before .args .table .now)
-          (marked (c .before .before .before .before .before .before .before .args .marks .now))
-          (few-calls (c .before .before .before .before .before .before .before .args .table .now)
-          (c .before .before .before .before .before .before .before .pre .0)) _ _ _ _
-          (c .before .before .before .loop .inv)
-          (omega (
-            arith,
-            c .before .before .loop-test .taken,
-            c .before .before .before .before .before .before .before .pre .1 .0,
-          )) (c .before .if1 .left),
-    )
+    let start = c .before .before .before .before .before .before in
+    let table = start .args .table .now in
+    let early : length (placedOf table) < callCount table = omega (arith, start .pre .1 .0, start .pre .1 .1 .0) in
+    let few = few-calls table (start .pre .0) in
+    let trail = c .before .before .loop .inv in
+    omega (arith, trail-room table early few _ _ _ _ trail (c .before .loop-test .taken))
 
 loop-again : tie.Need-loop-again Inv-loop μ-loop
 loop-again c =
-    trail-on (c .before .before .before .before .before .before .before .args .table .now)
-    (marked (c .before .before .before .before .before .before .before .args .marks .now))
-    (few-calls (c .before .before .before .before .before .before .before .args .table .now)
-    (c .before .before .before .before .before .before .before .pre .0)) _ _ _ _
-    (c .before .before .before .loop .inv) _
-    (omega (
-      arith,
-      c .before .before .loop-test .taken,
-      c .before .before .before .before .before .before .before .pre .1 .0,
-    )) (c .before .if1 .left) (c .lowest-before .ensures)
+    let start = c .before .before .before .before .before .before in
+    let table = start .args .table .now in
+    let early : length (placedOf table) < callCount table = omega (arith, start .pre .1 .0, start .pre .1 .1 .0) in
+    let few = few-calls table (start .pre .0) in
+    let trail = c .before .before .loop .inv in
+    trail-on table early few _ _ _ _ trail _ (c .before .loop-test .taken)
+    (before-is table (start .args .marks .now) _ _ (start .pre .1 .1 .1 .0) (c .lowest-before .ensures))
 
-same-length-2 : tie.Need-same-length-2 Inv-loop μ-loop
-same-length-2 c = c .before .loop .inv .long ∙ sym (c .before .before .before .before .before .pre .1 .1)
+same-length : tie.Need-same-length Inv-loop μ-loop
+same-length c =
+    c .before .loop .inv .long ∙ sym (c .before .before .before .before .before .pre .1 .1 .1 .1)
 
-returns-2 : tie.Need-returns-2 Inv-loop μ-loop
-returns-2 c =
-    trail-lost (c .before .before .before .before .before .args .table .now)
-    (marked (c .before .before .before .before .before .args .marks .now))
-    (few-calls (c .before .before .before .before .before .args .table .now)
-    (c .before .before .before .before .before .pre .0)) _ _ _ _ (c .before .loop .inv)
-    (omega (arith, c .loop-test .left, c .before .before .before .before .before .pre .1 .0))
+returns : tie.Need-returns Inv-loop μ-loop
+returns c =
+    let start = c .before .before .before .before .before in
+    let table = start .args .table .now in
+    let early : length (placedOf table) < callCount table = omega (arith, start .pre .1 .0, start .pre .1 .1 .0) in
+    let few = few-calls table (start .pre .0) in
+    let trail = c .before .loop .inv in
+    trail-met table early few _ _ _ _ trail (c .loop-test .left)
 
 pub walk-back-spec : {M : Type 1} → statement M
 walk-back-spec =
@@ -149,9 +113,7 @@ walk-back-spec =
     μ-loop
     lowest-left-requires
     loop-holds
-    array-read-if1
-    same-length
-    returns
+    array-read-loop
     sub-at
     cast-path
     slice-write-path
@@ -159,5 +121,5 @@ walk-back-spec =
     lowest-before-requires
     loop-less
     loop-again
-    same-length-2
-    returns-2)
+    same-length
+    returns)
