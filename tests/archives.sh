@@ -1,6 +1,7 @@
 # Where the archives under test are, and what they export: sourced after machine.sh.
 # Sets KIND (proved, or plain for bench/plain's C versions), ARCHIVES (a folder), BUILD, the lists
-# EXPORTS and ARCHIVE_NAMES, and what links all archives from C and from Rust: C_LINKS, RUST_LINKS.
+# EXPORTS and ARCHIVE_NAMES, and what links all archives from C and from Rust: C_LINKS, RUST_LINKS;
+# `build_server`, then `rust_test NAME` run the tests in Rust.
 
 KIND=${1:-proved}
 BUILD=$ROOT/target/tests/$KIND
@@ -61,3 +62,19 @@ C_LINKS=(-L "$ARCHIVES") RUST_LINKS=(-L "$ARCHIVES")
 for archive in "${ARCHIVE_NAMES[@]}"; do
     C_LINKS+=(-l "$archive") RUST_LINKS+=(-l "static=$archive")
 done
+
+# Where the machine cannot run the archives, the Rust tests run on it all the same, and a process under
+# the emulator calls the archives for them.
+build_server() {
+    [ ${#RUN[@]} -gt 0 ] || return 0
+    "${RUSTC[@]}" -O "$ROOT/tests/rust/serve.rs" -o "$BUILD/serve" "${RUST_LINKS[@]}"
+    export OORLICHDAY_EMULATOR=${RUN[0]} OORLICHDAY_SERVER=$BUILD/serve
+}
+
+# rust_test NAME WORDS...: builds a test of tests/rust and runs those of its tests that the words name.
+rust_test() {
+    local links=()
+    [ ${#RUN[@]} -gt 0 ] || links=("${RUST_LINKS[@]}")
+    "${NATIVE[@]}" -O --test "$ROOT/tests/rust/$1.rs" -o "$BUILD/rust_$1" "${links[@]}"
+    "$BUILD/rust_$1" "${@:2}"
+}

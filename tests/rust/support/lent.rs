@@ -1,5 +1,6 @@
 //! Buffers between two pages without access, with canary bytes on the open side.
 
+use std::ops::Range;
 use std::os::raw::{c_int, c_void};
 
 extern "C" {
@@ -31,6 +32,7 @@ pub struct Lent {
     size: usize,
     at: usize,
     expected: Vec<u8>,
+    buffer: Range<usize>,
 }
 
 impl Lent {
@@ -48,7 +50,7 @@ impl Lent {
             assert_eq!(mprotect(start.add(PAGE + size) as *mut c_void, PAGE, 0), 0);
             start.add(PAGE)
         };
-        Lent { pages, size, at: 0, expected: Vec::new() }
+        Lent { pages, size, at: 0, expected: Vec::new(), buffer: 0..0 }
     }
 
     /// Puts the bytes against one of the pages; canaries stand on the other side.
@@ -71,6 +73,7 @@ impl Lent {
             Side::Start => 0,
             Side::End => CANARIES,
         };
+        self.buffer = buffer..buffer + bytes.len();
         // Sound: within our own pages.
         unsafe {
             let start = self.pages.add(self.at);
@@ -85,18 +88,10 @@ impl Lent {
         unsafe { std::slice::from_raw_parts(self.pages.add(self.at), self.expected.len()) }
     }
 
-    /// Is every byte as it was lent?
-    pub fn unchanged(&self) -> bool {
-        self.now() == &self.expected[..]
-    }
-
-    /// Does the buffer hold these bytes at its front, and is every other byte as it was lent?
-    pub fn holds(&mut self, front: &[u8], side: Side) -> bool {
-        let buffer = match side {
-            Side::Start => 0,
-            Side::End => CANARIES,
-        };
-        self.expected[buffer..buffer + front.len()].copy_from_slice(front);
-        self.unchanged()
+    /// What the buffer holds now; nothing where a canary beside it has changed.
+    pub fn left(&self) -> Option<&[u8]> {
+        let (now, Range { start, end }) = (self.now(), self.buffer.clone());
+        let kept = now[..start] == self.expected[..start] && now[end..] == self.expected[end..];
+        kept.then_some(&now[start..end])
     }
 }

@@ -1,6 +1,13 @@
 //! What the tests share: the archive's functions, lent buffers, and makers of tables and texts.
 #![allow(dead_code)]
 
+// Where the archive's code cannot run, a process under an emulator calls it.
+#[cfg(target_arch = "x86_64")]
+pub mod archive;
+#[cfg(not(target_arch = "x86_64"))]
+#[path = "served.rs"]
+pub mod archive;
+pub mod asked;
 pub mod calls;
 pub mod damage;
 pub mod faults;
