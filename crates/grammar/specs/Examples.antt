@@ -156,9 +156,7 @@ examples :
     × (reading 11 example ≡ stopped 34 0)
     × (reading 0 (ported "") ≡ stopped 31 4)
 unfolding allowed same grown parted rows word place times lineOf firstBad blank unitNamed
-    outputNamed
-    inputNamed feedOf loose known addUnit addOutput addInput addFeed joined addJoin refused refuse
-    taken
-    isName faulty kindOf unitLine outLine inLine feedLine joinLine line stopped pairs packed ending
-    linesFrom version lineByLine reading
+    outputNamed inputNamed feedOf loose known addUnit addOutput addInput addFeed joined addJoin
+    refused refuse taken isName faulty kindOf unitLine outLine inLine feedLine joinLine line stopped
+    pairs packed ending linesFrom version lineByLine reading
 examples = (refl, refl, refl, refl, refl)

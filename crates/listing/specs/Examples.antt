@@ -143,14 +143,11 @@ pub examples :
     × (length (listing greatestText) ≡ 8860)
 unfolding every some leastFrom units outputs inputs feeds outputOwners inputOwners kinds sources
     feedBytes asked checkRefuse countsIn allBelow isPair feedKnown feedAgain feedsFrom wiring
-    refusal callIn
-    feedsTo hasKind byKind before precedes ready nextCall sort placed upto
+    refusal callIn feedsTo hasKind byKind before precedes ready nextCall sort placed upto
     lowestBefore walk lowestLeft met lowestOf lowestPlace shown placedOf shownOf shownOrNot settled
     ordering allowed same grown parted rows word place times lineOf firstBad blank unitNamed
-    outputNamed
-    inputNamed feedOf loose known addUnit addOutput addInput addFeed
-    joined addJoin refused refuse taken isName faulty kindOf unitLine outLine inLine feedLine
-    joinLine
-    line stopped pairs packed ending linesFrom version lineByLine reading linesOf decimal spell
-    printed entry entries callsText refusalText outcomeText listing
+    outputNamed inputNamed feedOf loose known addUnit addOutput addInput addFeed joined addJoin
+    refused refuse taken isName faulty kindOf unitLine outLine inLine feedLine joinLine line stopped
+    pairs packed ending linesFrom version lineByLine reading linesOf decimal spell printed entry
+    entries callsText refusalText outcomeText listing
 examples = (refl, refl, refl, refl, refl)

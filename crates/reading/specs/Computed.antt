@@ -39,8 +39,7 @@ pub tables :
     (numbered (rows example) ≡ 2 ∷ 2 ∷ 2 ∷ 0 ∷ 0 ∷ 1 ∷ 0 ∷ 1 ∷ 0 ∷ 1 ∷ 1 ∷ 0 ∷ [])
     × (numbered (rows alike) ≡ 2 ∷ 2 ∷ 2 ∷ 1 ∷ 0 ∷ 1 ∷ 1 ∷ 0 ∷ 0 ∷ 1 ∷ 0 ∷ 1 ∷ 1 ∷ 0 ∷ [])
 unfolding same grown parted rows word place linesOf kindOf pairs unitNumber portNumber joinPlace
-    joinOf
-    sourceNumber feedNumbers numbered
+    joinOf sourceNumber feedNumbers numbered
 tables = (refl, refl)
 
 -- ---- the lines of refusals
@@ -70,9 +69,8 @@ unknown = below "unit\ta\nunits\tb\n"
 
 pub unknown-lined : Lined unknown (reading 644 unknown)
 unfolding allowed same grown parted rows word place times lineOf firstBad blank unitNamed known
-    addUnit refused
-    refuse taken isName faulty unitLine line stopped version linesFrom lineByLine reading lineCount
-    refusals
+    addUnit refused refuse taken isName faulty unitLine line stopped version linesFrom lineByLine
+    reading lineCount refusals
 unknown-lined = record {
   none = (
     λ z. absurd (omega arith),
