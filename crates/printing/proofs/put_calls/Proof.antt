@@ -40,8 +40,8 @@ array-share-prefix-units c =
 
 slice-aggregate-put-lines : tie.Need-slice-aggregate-put-lines
 slice-aggregate-put-lines c =
-    let note-lines = c .before .before .before .before .before .before .before .before .before
-    .before .note-lines in
+    let at-note-lines = c.before.before.before.before.before.before.before.before.before.before in
+    let note-lines = at-note-lines.note-lines in
     sym (length-take-le _ _ (noted-fits note-lines.ensures))
 
 array-share-prefix-outputs : tie.Need-array-share-prefix-outputs

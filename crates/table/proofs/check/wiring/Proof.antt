@@ -120,8 +120,8 @@ feed-count-requires c κs = search needs
 feeds-refusal-requires : tie.Need-feeds-refusal-requires
 feeds-refusal-requires c κs =
     let feed-pairs = c.before.feed-pairs in
-    let pre = c .before .before .before .before .before .before .before .before .before .before
-    .before .before .before .before .before .before .before .pre in
+    let at-if1 = c.before.before.before.before.before.before.before.before.before.before in
+    let pre = at-if1.before.before.before.before.before.before.before.pre in
     pairs-room _ _ _ _ feed-pairs.ensures (long-pairs _ pre) c.feed-count.ensures.0
 
 returns-5 : tie.Need-returns-5
