@@ -25,6 +25,27 @@ part() {
     passed=$((passed + good)) failed=$((failed + bad))
 }
 
+# beside COMMAND...: runs its parts beside those that follow it here, until `joined`; what they say is kept.
+beside() {
+    lane=$(mktemp -d)
+    (
+        passed=0 failed=0
+        "$@"
+        echo "$passed $failed" >"$lane/count"
+    ) </dev/null >"$lane/said" 2>&1 &
+    lane_process=$!
+}
+
+# joined: waits for the parts beside, prints what they said and adds their counts; to break off is a failure.
+joined() {
+    local good=0 bad=1
+    wait "$lane_process" || true
+    cat "$lane/said"
+    if [ -s "$lane/count" ]; then read -r good bad <"$lane/count"; else echo "the parts beside broke off"; fi
+    rm -rf "$lane"
+    passed=$((passed + good)) failed=$((failed + bad))
+}
+
 # The last line, and the status that goes with it.
 finish() {
     echo "$passed passed, $failed failed"

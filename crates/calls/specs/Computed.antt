@@ -1,4 +1,4 @@
--- Precedence on tables of SPECIFICATION, Examples, computed: a definition that says something else makes one false.
+-- Precedence on tables of SPECIFICATION, Examples, computed: another definition makes one false.
 use mathlib.Core.Path.{_≡_, refl}
 use mathlib.Core.Bool.{true, false}
 use native.Mathlib.Omega.{arith}
@@ -41,7 +41,7 @@ sentences = (
   step-set 0 (omega arith) refl refl refl,
 )
 
--- G's feed is an edge to the get and not to the step; a unit joined to itself waits only where its input is reactive
+-- G's feed leads to the get, not the step; a unit joined to itself waits only by a reactive input
 pub tests :
     (precedes (shapeOf G) 5 3 ≡ true)
     × (precedes (shapeOf G) 5 1 ≡ false)

@@ -12,8 +12,10 @@ use Rattle.table.specs.Shape.{Shape, total, Wired}
 use Rattle.calls.specs.declared.Call.{Call}
 use Rattle.calls.specs.declared.Call.the-variants.{Step, Get, Set, NoCall}
 use Rattle.calls.specs.Number.{callOf, getNo, setNo}
-use Rattle.calls.specs.Precedence.{Precedes, step-get, get-set, set-get, set-step, step-set, feedsTo, hasKind, byKind, before, precedes}
-use Rattle.calls.specs.Numbers.{is-step, is-get, is-set, is-none, View, at-step, at-get, at-set, view}
+use Rattle.calls.specs.Precedence.{Precedes, step-get, get-set, set-get, set-step}
+use Rattle.calls.specs.Precedence.{step-set, feedsTo, hasKind, byKind, before, precedes}
+use Rattle.calls.specs.Numbers.{is-step, is-get, is-set, is-none}
+use Rattle.calls.specs.Numbers.{View, at-step, at-get, at-set, view}
 
 -- ---- the tests as facts
 
@@ -22,7 +24,8 @@ module _ (s : Shape) where
       → (k : ℕ) × (k < s .feeds) × (s .feedInput k ≡ x) × (s .feedOutput k ≡ y)
   unfolding feedsTo
   feeds-found x y t =
-      let (k, h, p) = some-found (λ k. eqb (s .feedInput k) x && eqb (s .feedOutput k) y) (s .feeds) t in
+      let (k, h, p) =
+      some-found (λ k. eqb (s .feedInput k) x && eqb (s .feedOutput k) y) (s .feeds) t in
       let (a, b) = T-and (eqb (s .feedInput k) x) (eqb (s .feedOutput k) y) p in
       (k, h, eqb→eq (s .feedInput k) x a, eqb→eq (s .feedOutput k) y b)
 
@@ -53,7 +56,8 @@ module _ (s : Shape) (ok : Wired s) where
   pub step-get-holds : (y : ℕ) → y < s .outputs → T (precedes s (s .outputOwner y) (getNo s y))
   unfolding precedes before byKind
   step-get-holds y h =
-      rw (is-step s (s .outputOwner y) (ok .output-owned y h), is-get s y h) (eqb-refl (s .outputOwner y))
+      rw (is-step s (s .outputOwner y) (ok .output-owned y h), is-get s y h)
+      (eqb-refl (s .outputOwner y))
 
   pub get-set-holds : (x : ℕ) → x < s .inputs → T (precedes s (getNo s (s .source x)) (setNo s x))
   unfolding precedes before byKind
@@ -65,13 +69,15 @@ module _ (s : Shape) (ok : Wired s) where
   unfolding precedes before byKind
   set-get-holds x y h g t = rw (is-set s x h, is-get s y g) t
 
-  pub set-step-holds : (x : ℕ) → x < s .inputs → s .kind x ≡ 1 → T (precedes s (setNo s x) (s .inputOwner x))
+  pub set-step-holds : (x : ℕ) → x < s .inputs → s .kind x ≡ 1
+      → T (precedes s (setNo s x) (s .inputOwner x))
   unfolding precedes before byKind
   set-step-holds x h e =
       rw (is-set s x h, is-step s (s .inputOwner x) (ok .input-owned x h))
       (found-kind s 1 x (s .inputOwner x) e refl)
 
-  pub step-set-holds : (x : ℕ) → x < s .inputs → s .kind x ≡ 0 → T (precedes s (s .inputOwner x) (setNo s x))
+  pub step-set-holds : (x : ℕ) → x < s .inputs → s .kind x ≡ 0
+      → T (precedes s (s .inputOwner x) (setNo s x))
   unfolding precedes before byKind
   step-set-holds x h e =
       rw (is-step s (s .inputOwner x) (ok .input-owned x h), is-set s x h)
@@ -100,8 +106,10 @@ module _ (s : Shape) where
   before-get y a hy ha t = go (view s a ha) (rw (is-get s y hy) at t)
     where
       go : View s a → T (before s (callOf s a) (Get y))
-          → (a ≡ s .outputOwner y) ⊎ ((x : ℕ) × (x < s .inputs) × (a ≡ setNo s x) × T (feedsTo s x y))
-      go (at-step v h e) r = inl (e ∙ sym (eqb→eq (s .outputOwner y) v (rw (e, is-step s v h) at r)))
+          → (a ≡ s .outputOwner y) ⊎
+          ((x : ℕ) × (x < s .inputs) × (a ≡ setNo s x) × T (feedsTo s x y))
+      go (at-step v h e) r =
+          inl (e ∙ sym (eqb→eq (s .outputOwner y) v (rw (e, is-step s v h) at r)))
       go (at-get z h e) r = absurd (rw (e, is-get s z h) at r)
       go (at-set x h e) r = inr (x, h, e, (rw (e, is-set s x h) at r))
 
@@ -164,7 +172,8 @@ module _ (s : Shape) (ok : Wired s) where
   tested a b (get-set x h p q) = rw (p, q) (get-set-holds s ok x h)
   tested a b (set-get k h p q) =
       rw (p, q)
-      (set-get-holds s ok (s .feedInput k) (s .feedOutput k) (ok .feed-input k h) (ok .feed-output k h)
+      (set-get-holds s ok (s .feedInput k) (s .feedOutput k) (ok .feed-input k h)
+      (ok .feed-output k h)
       (found-feeds s k h))
   tested a b (set-step x h k p q) = rw (p, q) (set-step-holds s ok x h k)
   tested a b (step-set x h k p q) = rw (p, q) (step-set-holds s ok x h k)

@@ -34,12 +34,14 @@ module _ (s : Shape) where
   pub is-get : (y : ℕ) → y < s .outputs → callOf s (getNo s y) ≡ Get y
   is-get y h =
       let e : s .units + y - s .units ≡ y = omega arith in
-      call-get (s .units) (s .outputs) (s .inputs) (getNo s y) (omega arith) (omega arith) ∙ ap Get e
+      call-get (s .units) (s .outputs) (s .inputs) (getNo s y) (omega arith) (omega arith)
+      ∙ ap Get e
 
   pub is-set : (x : ℕ) → x < s .inputs → callOf s (setNo s x) ≡ Set x
   is-set x h =
       let e : s .units + s .outputs + x - s .units - s .outputs ≡ x = omega arith in
-      call-set (s .units) (s .outputs) (s .inputs) (setNo s x) (omega arith) (omega arith) (omega arith)
+      call-set (s .units) (s .outputs) (s .inputs) (setNo s x) (omega arith) (omega arith)
+      (omega arith)
       ∙ ap Set e
 
   -- all numbers at and above N are no call

@@ -34,7 +34,9 @@ fn has_kind(table: &[u8], kind: usize, x: usize, u: usize) -> bool
 // Is feed k of input x to output y?
 fn is_feed(pairs: &[u8], k: usize, x: usize, y: usize) -> bool
     requires { ⌜ k < 256 ⌝ }
-    ensures { λ r. ⌜ r ≡ (eqb (pairInput (now (pairs .entry)) k) x && eqb (pairOutput (now (pairs .entry)) k) y) ⌝ }
+    ensures { λ r.
+        ⌜ r ≡ (eqb (pairInput (now (pairs .entry)) k) x
+        && eqb (pairOutput (now (pairs .entry)) k) y) ⌝ }
 {
     if byte(pairs, 2 * k) != x {
         return false;

@@ -14,14 +14,17 @@ use Rattle.fields.specs.Spans.{fieldsAt}
 use Rattle.fields.specs.Parts.{Part, field-part}
 use Rattle.declarations.specs.Noted.{opens, beginsFrom, Noted}
 use Rattle.declarations.specs.Turn.{Turn}
-use Rattle.declarations.specs.Begins.{told-small, begins-none, begins-here, begins-later, line-told}
+use Rattle.declarations.specs.Begins.{told-small, begins-none, begins-here}
+use Rattle.declarations.specs.Begins.{begins-later, line-told}
 
 -- where the first field stands
-pub first-part : {t : List ℕ} {a : ℕ} {l : Fields} → l ≡ fieldsAt t a → length t ≤ 65535 → Part t a 0 l
+pub first-part : {t : List ℕ} {a : ℕ} {l : Fields} → l ≡ fieldsAt t a → length t ≤ 65535
+    → Part t a 0 l
 first-part {t} {a} e h = rw e (field-part t a h 0 (omega arith))
 
 pub turn-kept :
-    (w t : List ℕ) (a n : ℕ) (places : List ℕ) → opens w (rowAt t a) ≡ false → Turn w t a n places places n
+    (w t : List ℕ) (a n : ℕ) (places : List ℕ) → opens w (rowAt t a) ≡ false
+    → Turn w t a n places places n
 turn-kept w t a n places e = record { front = rw e; count = rw e }
 
 pub turn-noted :
@@ -37,7 +40,8 @@ module _ (t : List ℕ) (a : ℕ) (l : Fields) (e : l ≡ fieldsAt t a) (h : 0 <
   pub line-small : length t ≤ 65535
   line-small = told-small t a told-count
 
-  told : Lexed t a (fieldsAt t a .from) (fieldsAt t a .to) (fieldsAt t a .count) (fieldsAt t a .next)
+  told : Lexed t a (fieldsAt t a .from) (fieldsAt t a .to) (fieldsAt t a .count)
+      (fieldsAt t a .next)
   told = line-told [] t a told-count
 
   pub line-further : a < l .next
@@ -51,7 +55,8 @@ pub record Noting (w t places₀ places : List ℕ) (n a : ℕ) : Type 0 where
   pub noted : Fronting (beginsFrom w t 0) (beginsFrom w t a) places₀ places n
 
 pub noting-starts : (w t places : List ℕ) → Noting w t places places 0 0
-noting-starts w t places = record { within = omega arith; noted = fronting-starts (beginsFrom w t 0) places }
+noting-starts w t places =
+    record { within = omega arith; noted = fronting-starts (beginsFrom w t 0) places }
 
 module _ {w t places₀ places : List ℕ} {n a : ℕ} (g : Noting w t places₀ places n a) where
   pub noting-on :
@@ -81,7 +86,8 @@ module _ {w t places₀ places : List ℕ} {n a : ℕ} (g : Noting w t places₀
   noting-ends e z =
       let q = fronting-ends _ _ _ _ n (g .noted) (begins-none w t a (rw (← e) z)) in
       let all : take (length places₀) (beginsFrom w t 0) ≡ beginsFrom w t 0 =
-      take-all (length places₀) (beginsFrom w t 0) (omega (arith, q .0, g .noted .fits, g .noted .long)) in
+      take-all (length places₀) (beginsFrom w t 0)
+      (omega (arith, q .0, g .noted .fits, g .noted .long)) in
       record { front = rw all (q .1); count = rw all (q .0) }
 
   -- no room is left

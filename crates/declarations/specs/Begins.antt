@@ -71,8 +71,10 @@ module _ (w t : List ℕ) (a : ℕ) where
     unfolding beginsOf
     split = from-here ∙ rw (line-told .rest, from-next)
 
-    pub begins-here : opens w (rowAt t a) ≡ true → beginsFrom w t a ≡ a ∷ beginsFrom w t (fieldsAt t a .next)
+    pub begins-here : opens w (rowAt t a) ≡ true
+        → beginsFrom w t a ≡ a ∷ beginsFrom w t (fieldsAt t a .next)
     begins-here e = split ∙ rw e
 
-    pub begins-later : opens w (rowAt t a) ≡ false → beginsFrom w t a ≡ beginsFrom w t (fieldsAt t a .next)
+    pub begins-later : opens w (rowAt t a) ≡ false
+        → beginsFrom w t a ≡ beginsFrom w t (fieldsAt t a .next)
     begins-later e = split ∙ rw e

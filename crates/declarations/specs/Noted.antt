@@ -26,7 +26,8 @@ declared w n t = take n (linesOf (told t) w)
 -- where they begin, the first of all lines at place a
 unfoldable pub beginsOf : List ℕ → ℕ → List (List (List ℕ)) → List ℕ
 beginsOf w a [] = []
-beginsOf w a (f ∷ fs) = cond (opens w f) (a ∷ beginsOf w (a + span f) fs) (beginsOf w (a + span f) fs)
+beginsOf w a (f ∷ fs) =
+    cond (opens w f) (a ∷ beginsOf w (a + span f) fs) (beginsOf w (a + span f) fs)
 
 -- where the lines of the text from place a on begin that open with w
 unfoldable pub beginsFrom : List ℕ → List ℕ → ℕ → List ℕ

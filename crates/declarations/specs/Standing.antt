@@ -23,7 +23,8 @@ module _ (w t : List ℕ) (d : ℕ) (small : length t ≤ 65535) (past : length 
 
   -- a line of the text and the lines below it
   row-first :
-      (a : ℕ) (f : List (List ℕ)) (fs : List (List (List ℕ))) → rows (drop a t) ≡ f ∷ fs → rowAt t a ≡ f
+      (a : ℕ) (f : List (List ℕ)) (fs : List (List (List ℕ))) → rows (drop a t) ≡ f ∷ fs
+      → rowAt t a ≡ f
   unfolding rowAt
   row-first a f fs e = ap (λ r. getD r 0 []) e
 
@@ -70,7 +71,8 @@ module _ (w t : List ℕ) (d : ℕ) (small : length t ≤ 65535) (past : length 
   line-stands k = rw (le-ltb 65535 (length t) small) (stands (rows t) 0 k refl)
 
 many :
-    (w : List ℕ) (fs : List (List (List ℕ))) (a : ℕ) → length (beginsOf w a fs) ≡ length (linesOf fs w)
+    (w : List ℕ) (fs : List (List (List ℕ))) (a : ℕ)
+    → length (beginsOf w a fs) ≡ length (linesOf fs w)
 unfolding beginsOf linesOf
 many w [] a = refl
 many w (f ∷ fs) a = go (opens w f) (many w fs (a + span f))
@@ -97,7 +99,8 @@ any-default (x ∷ xs) (suc k) a b h = any-default xs k a b (omega arith)
 -- ---- the first n places and the first n lines
 module _ (w : List ℕ) (n : ℕ) (t : List ℕ) where
   -- where there are no more than n, they are all the lines that open with w
-  pub declared-all : length t ≤ 65535 → length (linesOf (rows t) w) ≤ n → declared w n t ≡ linesOf (rows t) w
+  pub declared-all : length t ≤ 65535 → length (linesOf (rows t) w) ≤ n
+      → declared w n t ≡ linesOf (rows t) w
   unfolding declared told
   declared-all h l = rw (le-ltb 65535 (length t) h) (take-all n (linesOf (rows t) w) l)
 

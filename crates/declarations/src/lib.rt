@@ -29,7 +29,8 @@ fn note(
     places: &mut [u16],
     n: usize,
 ) -> usize
-    requires { ⌜ (fields ≡ fieldsAt (now text) a) × (0 < fields .count) × (n < length (now places)) ⌝ }
+    requires { ⌜ (fields ≡ fieldsAt (now text) a) × (0 < fields .count)
+        × (n < length (now places)) ⌝ }
     ensures { λ r. ⌜ Turn (now (keyword .entry)) (now (text .entry)) a n
         (now (places .entry)) (now (places .exit)) r ⌝ }
 {
@@ -40,7 +41,7 @@ fn note(
     n + 1
 }
 
-// Notes where the lines that open with the keyword begin, as many as there is room for, and answers how many.
+// Notes where the lines that open with the keyword begin, as many as fit, and answers how many.
 pub fn note_lines(text: &[u8], keyword: &[u8], places: &mut [u16]) -> usize
     ensures { λ r. ⌜ Noted (now (keyword .entry)) (now (text .entry))
         (now (places .entry)) (now (places .exit)) r ⌝ }

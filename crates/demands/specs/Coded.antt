@@ -1,4 +1,4 @@
--- Demand 2 and the premise of demand 3 over the number that C gets, 256 times the number plus the place.
+-- Demand 2 and the premise of demand 3 over what C gets, 256 times the number plus the place.
 -- It is below 256 exactly where the number is 0, and it is then the place.
 use mathlib.Core.Path.{_≡_, refl, sym, ap, _∙_}
 use mathlib.Core.Logic.{_↔_}
@@ -38,7 +38,7 @@ pub record TellsOrder (t : List ℕ) (r : ℕ) (order : List ℕ) : Type 0 where
   pub produced : (r ≡ callCount t) ↔ ((l : List ℕ) → Cycle (callCount t) (precedes (shapeOf t)) l → ⊥)
   -- then the N bytes at the buffer's front are the first order
   pub first : r ≡ callCount t → First (callCount t) (precedes (shapeOf t)) (take (callCount t) order)
-  -- otherwise C gets 9 with a length of at most N, and that many bytes at the front are a true cycle,
+  -- otherwise C gets 9 with a length of at most N, and so many bytes at the front are a true cycle,
   -- its lowest call first and no call twice
   pub shown : (r ≡ callCount t → ⊥)
       → (k : ℕ) × (r ≡ 256 * 9 + k) × (k ≤ callCount t) × Shown (callCount t) (precedes (shapeOf t)) (take k order)
@@ -55,7 +55,8 @@ then-place a e = omega arith
 
 -- ---- the check: below 256 exactly for a sound table, and then N
 
-pub check-coded : (t : List ℕ) → ((coded (checked t) < 256) ↔ Sound t) × (Sound t → coded (checked t) ≡ callCount t)
+pub check-coded : (t : List ℕ)
+    → ((coded (checked t) < 256) ↔ Sound t) × (Sound t → coded (checked t) ≡ callCount t)
 check-coded t =
     let (to, from) = number-0 (checked t) (place-most t) in (
       ((λ l. check-sound t .0 (to l)), (λ s. from (check-sound t .1 s))),
@@ -64,7 +65,8 @@ check-coded t =
 
 -- ---- the verdict: below 256 exactly where the table is sound and the list passes, and then N
 
-pub verdict-0 : (t order : List ℕ) → (coded (verdictOf t order) < 256) ↔ (verdictOf t order .number ≡ 0)
+pub verdict-0 : (t order : List ℕ) → (coded (verdictOf t order) < 256)
+    ↔ (verdictOf t order .number ≡ 0)
 verdict-0 t order = number-0 (verdictOf t order) (verdict-most t order)
 
 pub verdict-coded : (t order : List ℕ)
@@ -74,7 +76,8 @@ verdict-coded t order =
     let (to, from) = verdict-0 t order in
     let (there, back) = passed-exactly t order (verdictOf t order) refl in (
       ((λ l. there (to l)), (λ p. from (back p))),
-      (λ l. then-place (verdictOf t order) (to l) ∙ ap (λ (a : Answer). a .place) (passed-N t order (to l))),
+      (λ l. then-place (verdictOf t order) (to l)
+          ∙ ap (λ (a : Answer). a .place) (passed-N t order (to l))),
     )
 
 -- ---- the order
@@ -100,7 +103,8 @@ module _ (t out : List ℕ) (sound : Sound t) (enough : callCount t ≤ length o
   N-is : (told ≡ callCount t) ↔ (ordering t (length out) .answer .number ≡ 0)
   N-is = (
     (λ e. order-0 t (length out) .0 (omega (arith, e, few-calls t sound))),
-    (λ z. then-place (ordering t (length out) .answer) z ∙ order-first t (length out) sound enough z .1),
+    (λ z. then-place (ordering t (length out) .answer) z
+        ∙ order-first t (length out) sound enough z .1),
   )
 
   pub order-coded : TellsOrder t told left
@@ -116,7 +120,12 @@ module _ (t out : List ℕ) (sound : Sound t) (enough : callCount t ≤ length o
             let (nine, long, c) = order-else t (length out) sound enough (λ z. n (N-is .1 z)) in (
               ordering t (length out) .answer .place,
               omega (arith, nine),
-              omega (arith, long, once-most (callCount t) (ordering t (length out) .bytes) (c .cycle .calls) (c .once)),
+              omega (
+                arith,
+                long,
+                once-most (callCount t) (ordering t (length out) .bytes)
+                    (c .cycle .calls) (c .once),
+              ),
               rw (order-front t out (ordering t (length out) .answer .place) refl) c,
             );
       }

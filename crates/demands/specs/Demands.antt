@@ -1,4 +1,4 @@
--- What `order` gives, `verdict` passes, and the twin's run of it ends at the one solution of the equations.
+-- What `order` gives, `verdict` passes, and its run ends at the one solution of the equations.
 use mathlib.Core.Path.{_≡_}
 use mathlib.Core.List.{List}
 use Prim.Native.Nat.{ℕ, _<_}
@@ -35,13 +35,15 @@ module _ (t : List ℕ) (room : ℕ) (given : Given t room) where
   given-ends = demand-3 t (ordering t room .bytes) given-number
 
   -- every passed order ends as that one does
-  pub given-alike : (order : List ℕ) → verdictOf t order .number ≡ 0 → (m : Rules ℤ ℤ) (w : World ℤ ℤ) (a : ℕ)
+  pub given-alike : (order : List ℕ) → verdictOf t order .number ≡ 0
+      → (m : Rules ℤ ℤ) (w : World ℤ ℤ) (a : ℕ)
       → a < total (shapeOf t)
       → run (shapeOf t) m w order (callOf (shapeOf t) a)
       ≡ run (shapeOf t) m w (ordering t room .bytes) (callOf (shapeOf t) a)
   given-alike order p = demand-3-alike t order (ordering t room .bytes) p given-number
 
 -- demand 3 for an order that a run takes call by call
-pub in-turn-ends : (t order : List ℕ) → TakenInTurn t order → (m : Rules ℤ ℤ) (w : World ℤ ℤ) (n : ℕ)
+pub in-turn-ends : (t order : List ℕ) → TakenInTurn t order
+    → (m : Rules ℤ ℤ) (w : World ℤ ℤ) (n : ℕ)
     → AtTime (shapeOf t) n w → Ends t m order w n
 in-turn-ends t order p = demand-3 t order (in-turn-passed t order .0 p)

@@ -36,7 +36,8 @@ module _ (t : List ℕ) (room : ℕ) (given : Given t room) where
   pub given-room : callCount t ≤ room
   given-room = elim (decLt room (callCount t)) [
     | yes h ↦
-        absurd (let z : _≡_ {A = ℕ} 8 0 = answered _ (ordering-short t room given-checked h) in omega arith)
+        absurd (let z : _≡_ {A = ℕ} 8 0 = answered _ (ordering-short t room given-checked h) in
+        omega arith)
     | no h ↦ omega arith
   ]
 

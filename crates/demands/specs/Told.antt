@@ -1,4 +1,4 @@
--- The demands over the contracts of what C calls, as callers read them: r is the number that C gets.
+-- The demands over the contracts of what C calls, as callers read them: r is what C gets.
 use mathlib.Core.Path.{_≡_, sym, _∙_}
 use mathlib.Core.Logic.{_↔_}
 use Prim.Native.Nat.{ℕ, _≤_, _<_}
@@ -24,7 +24,8 @@ use Rattle.firmware.proofs.oorlichday_order.Kinds as order
 use Rattle.firmware.proofs.oorlichday_order.Reads as order-says
 use Rattle.firmware.proofs.oorlichday_verdict.Kinds as verdict
 use Rattle.firmware.proofs.oorlichday_verdict.Reads as verdict-says
-use Rattle.demands.specs.Coded.{TellsOrder, then-place, check-coded, order-coded, order-0, order-front, verdict-coded, verdict-0}
+use Rattle.demands.specs.Coded.{TellsOrder, then-place, check-coded, order-coded}
+use Rattle.demands.specs.Coded.{order-0, order-front, verdict-coded, verdict-0}
 use Rattle.demands.specs.Given.{given-sound, given-room}
 use Rattle.demands.specs.Demands.{given-ends}
 
@@ -35,12 +36,15 @@ check-told κs a r w p = rw p (check-coded (now (a .0)))
 
 -- demand 2, for a sound table and enough room
 pub order-told : Says order.ps order.r order-says.Learnt (λ κs a r w. (
-    Sound (now (a .0)) → callCount (now (a .0)) ≤ length (now (a .1 .0)) → TellsOrder (now (a .0)) r (w .1 .0)))
-order-told κs a r w p sound enough = rw (p .0, p .1) (order-coded (now (a .0)) (now (a .1 .0)) sound enough)
+    Sound (now (a .0)) → callCount (now (a .0)) ≤ length (now (a .1 .0))
+    → TellsOrder (now (a .0)) r (w .1 .0)))
+order-told κs a r w p sound enough =
+    rw (p .0, p .1) (order-coded (now (a .0)) (now (a .1 .0)) sound enough)
 
 -- it gets less than 256 only where the table is sound and there is room, and then it gets N
 pub order-given : Says order.ps order.r order-says.Learnt (λ κs a r w. (
-    r < 256 → Sound (now (a .0)) × (callCount (now (a .0)) ≤ length (now (a .1 .0))) × (r ≡ callCount (now (a .0)))))
+    r < 256 → Sound (now (a .0)) × (callCount (now (a .0)) ≤ length (now (a .1 .0)))
+    × (r ≡ callCount (now (a .0)))))
 order-given κs a r w p l =
     let t = now (a .0) in
     let room = length (now (a .1 .0)) in
@@ -52,7 +56,7 @@ order-given κs a r w p l =
       p .0 ∙ then-place (ordering t room .answer) given ∙ order-first t room sound enough given .1,
     )
 
--- demand 2, last sentence: C gets less than 256 exactly when the table is sound and the list passes, and then N
+-- demand 2, its last: C gets less than 256 just when the table is sound and the list passes: N
 pub verdict-told : Says verdict.ps verdict.r verdict-says.Learnt (λ κs a r w. (
     ((r < 256) ↔ (Sound (now (a .0)) × Passes (shapeOf (now (a .0))) none (now (a .1 .0))))
     × (r < 256 → r ≡ callCount (now (a .0)))))

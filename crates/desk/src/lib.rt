@@ -1,4 +1,4 @@
-// What tests and desktop programs call and the box does not export: the text, a judged run, precedence.
+// What tests and desktop programs call and the box does not: the text, a judged run, precedence.
 ghost use mathlib.Core.Path.{_≡_};
 ghost use lib.ListN.{length};
 ghost use Rattle.table.specs.Packed.{shapeOf};
@@ -26,7 +26,8 @@ pub extern "C" fn oorlichday_read(text: &[u8], table: &mut [u8]) -> Reading
       place = reading (length (now (table .entry))) (now (text .entry)) .place;
     } ⌝ }
     ensures { λ r. ⌜ now (table .exit)
-        ≡ fronted (reading (length (now (table .entry))) (now (text .entry)) .bytes) (now (table .entry)) ⌝ }
+        ≡ fronted (reading (length (now (table .entry))) (now (text .entry)) .bytes)
+        (now (table .entry)) ⌝ }
 {
     let answer = text::read(text, table);
     Reading {
@@ -35,7 +36,7 @@ pub extern "C" fn oorlichday_read(text: &[u8], table: &mut [u8]) -> Reading
     }
 }
 
-// Writes what the lister prints of a text: 0 and its length, for a refused text too; 34 and 0 where it does not fit.
+// Writes what the lister prints of a text, refused or not: 0 and its length; 34 and 0 if no room.
 #[no_mangle]
 pub extern "C" fn oorlichday_list(text: &[u8], out: &mut [u8]) -> Reading
     ensures { λ r. ⌜ r ≡ record {
@@ -53,7 +54,7 @@ pub extern "C" fn oorlichday_list(text: &[u8], out: &mut [u8]) -> Reading
     }
 }
 
-// One call of a judged run: the next run with 0, or the run as it was with the number of the refusal.
+// One call of a judged run: the next run with 0, or the run as it was with the refusal's number.
 #[no_mangle]
 pub extern "C" fn oorlichday_take(table: &[u8], run: Run, call: usize) -> Taken
     ensures { λ r. ⌜ r ≡ taken (now (table .entry)) run call ⌝ }

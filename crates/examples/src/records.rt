@@ -38,7 +38,8 @@ fn set(input: u8) -> Record {
 // The verdict on six records.
 fn verdict_on(table: &[u8], records: [Record; 6]) -> Answer
     ensures { λ r.
-        ⌜ r ≡ verdictOf (now (table .entry)) (allNumbered (shapeOf (now (table .entry))) records) ⌝ }
+        ⌜ r ≡ verdictOf (now (table .entry))
+        (allNumbered (shapeOf (now (table .entry))) records) ⌝ }
 {
     verdict_of_records(table, &records)
 }

@@ -69,7 +69,7 @@ fn in_turn() {
     take(b"A", run, &A, 6);
 }
 
-// States that no order leads to, marks at N and above, a number that no byte holds, a table that is not sound.
+// States that no order leads to, marks at N and above, a number above a byte, an unsound table.
 fn any_state() {
     take(b"A, 4 done", with_done(4, 4), &A, 0);
     take(

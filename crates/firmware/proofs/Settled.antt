@@ -1,4 +1,4 @@
--- The contracts of the public functions, as callers read them: nothing is asked, one answer is permitted, with every lent byte.
+-- Each public function's contract asks nothing and permits one answer, with every lent byte.
 use mathlib.Core.Path.{_≡_, ap, sym, refl, _∙_}
 use base.Logic.{emp, id⊢}
 use denote.Ref.{now}
@@ -15,16 +15,19 @@ use Rattle.firmware.proofs.oorlichday_order.Reads as oorlichday-order-s
 use Rattle.firmware.proofs.oorlichday_verdict.Kinds as oorlichday-verdict
 use Rattle.firmware.proofs.oorlichday_verdict.Reads as oorlichday-verdict-says
 
-pub oorlichday-check-settled : Settles oorlichday-check.ps oorlichday-check.r oorlichday-check-says.Asked oorlichday-check-says.Learnt
+pub oorlichday-check-settled : Settles oorlichday-check.ps oorlichday-check.r
+    oorlichday-check-says.Asked oorlichday-check-says.Learnt
 oorlichday-check-settled = ((λ κs a. tt), (λ κs a x y w v p q. (p ∙ sym q, refl)))
 
-pub oorlichday-order-settled : Settles oorlichday-order.ps oorlichday-order.r oorlichday-order-says.Asked oorlichday-order-says.Learnt
+pub oorlichday-order-settled : Settles oorlichday-order.ps oorlichday-order.r
+    oorlichday-order-says.Asked oorlichday-order-says.Learnt
 oorlichday-order-settled = (
   (λ κs a. tt),
   (λ κs a x y w v p q. (p .0 ∙ sym (q .0), ap (λ l. (tt, (l, tt))) (p .1 ∙ sym (q .1)))),
 )
 
-pub oorlichday-verdict-settled : Settles oorlichday-verdict.ps oorlichday-verdict.r oorlichday-verdict-says.Asked oorlichday-verdict-says.Learnt
+pub oorlichday-verdict-settled : Settles oorlichday-verdict.ps oorlichday-verdict.r
+    oorlichday-verdict-says.Asked oorlichday-verdict-says.Learnt
 oorlichday-verdict-settled = ((λ κs a. tt), (λ κs a x y w v p q. (p ∙ sym q, refl)))
 
 pub oorlichday-verdict-of-records-settled : SettlesClauses oorlichday-verdict-of-records.ended
@@ -32,7 +35,8 @@ pub oorlichday-verdict-of-records-settled : SettlesClauses oorlichday-verdict-of
 oorlichday-verdict-of-records-settled = (
   (λ m κs a. tt),
   (λ m κs a g. id⊢ (m .𝓤) (emp (m .𝓤))),
-  (λ κs a x w. x ≡ coded (verdictOf (now (a .0)) (allNumbered (shapeOf (now (a .0))) (now (a .1 .0))))),
+  (λ κs a x w. x ≡ coded (verdictOf (now (a .0))
+      (allNumbered (shapeOf (now (a .0))) (now (a .1 .0))))),
   (λ m κs a g x w. id⊢ (m .𝓤) _),
   (λ κs a x y w v p q. (p ∙ sym q, refl)),
 )

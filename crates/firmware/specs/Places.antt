@@ -20,7 +20,11 @@ module _ (t : List ℕ) (room : ℕ) (sound : Sound t) (enough : callCount t ≤
     | no n ↦
         (let (o, c) = not-placed t room sound enough n in
         rw o
-        (omega (arith, few-calls t sound, once-most (callCount t) (shownOf t) (c .cycle .calls) (c .once))))
+        (omega (
+          arith,
+          few-calls t sound,
+          once-most (callCount t) (shownOf t) (c .cycle .calls) (c .once),
+        )))
   ]
 
 pub order-most : (t : List ℕ) (room : ℕ) → ordering t room .answer .place ≤ 224

@@ -31,9 +31,11 @@ pub extern "C" fn oorlichday_check(table: &[u8]) -> u32
 // The first order of the table's calls, or a cycle of them.
 #[no_mangle]
 pub extern "C" fn oorlichday_order(table: &[u8], order: &mut [u8]) -> u32
-    ensures { λ r. ⌜ r ≡ coded (ordering (now (table .entry)) (length (now (order .entry))) .answer) ⌝ }
+    ensures { λ r.
+        ⌜ r ≡ coded (ordering (now (table .entry)) (length (now (order .entry))) .answer) ⌝ }
     ensures { λ r. ⌜ now (order .exit)
-        ≡ fronted (ordering (now (table .entry)) (length (now (order .entry))) .bytes) (now (order .entry)) ⌝ }
+        ≡ fronted (ordering (now (table .entry)) (length (now (order .entry))) .bytes)
+        (now (order .entry)) ⌝ }
 {
     code(sorter::order::order(table, order))
 }

@@ -1,4 +1,4 @@
--- What has been declared so far, names found in it, and one declaration more: SPECIFICATION, Text 6 to 8.
+-- What is declared so far, names found in it, one declaration more: SPECIFICATION, Text 6 to 8.
 use Prim.Native.Nat.{ℕ}
 use mathlib.Core.Bool.{Bool, _&&_}
 use mathlib.Core.List.{List, [], _∷_, _++_}

@@ -1,4 +1,4 @@
--- Texts and what reading them gives: the packed table, or a refusal with its line. All are computed.
+-- Texts and what reading them gives, the packed table or a refusal with its line; all computed.
 use Prim.Native.Nat.{ℕ}
 use Prim.Native.String.{String}
 use mathlib.Core.Path.{_≡_, refl}
@@ -7,12 +7,12 @@ use lib.ListN.{length, replicate}
 use Rattle.grammar.specs.Quoted.{ascii}
 use Rattle.grammar.specs.Words.{lf, same, allowed}
 use Rattle.grammar.specs.Rows.{grown, parted, rows, word, place, times, lineOf, firstBad}
-use Rattle.grammar.specs.Draft.{blank, unitNamed, outputNamed, inputNamed, feedOf, loose, known}
-use Rattle.grammar.specs.Draft.{addUnit, addOutput, addInput, addFeed, joined, addJoin}
+use Rattle.grammar.specs.Draft.{blank, unitNamed, outputNamed, inputNamed, feedOf, loose}
+use Rattle.grammar.specs.Draft.{known, addUnit, addOutput, addInput, addFeed, joined, addJoin}
 use Rattle.grammar.specs.Lines.{refused, refuse, taken, isName, faulty, kindOf}
 use Rattle.grammar.specs.Lines.{unitLine, outLine, inLine, feedLine, joinLine, line}
-use Rattle.grammar.specs.Reading.{stopped, pairs, packed, ending, linesFrom, version}
-use Rattle.grammar.specs.Reading.{lineByLine, reading}
+use Rattle.grammar.specs.Reading.{stopped, pairs, packed, ending}
+use Rattle.grammar.specs.Reading.{linesFrom, version, lineByLine, reading}
 
 -- ---- texts
 
@@ -39,9 +39,10 @@ abbrev each : List ℕ → (ℕ → List ℕ) → List ℕ
 each [] f = []
 each (x ∷ xs) f = f x ++ each xs f
 
--- a line for each of these letters with each of eight digits, and what stands before and behind that name
+-- a line for each of these letters with each of eight digits, with what is before and behind it
 abbrev lines : String → String → String → List ℕ
-lines letters s r = each (ascii letters) λ a. each (ascii "01234567") λ b. ascii s ++ (a ∷ b ∷ ascii r)
+lines letters s r =
+    each (ascii letters) λ a. each (ascii "01234567") λ b. ascii s ++ (a ∷ b ∷ ascii r)
 
 -- as many as a count allows, on 33, 98, 98 and 166 lines
 abbrev units32 : List ℕ
@@ -55,7 +56,8 @@ inputs96 = below "unit\tu\n" ++ lines "abcdefghijkl" "in\tu\t" "\tdelayed\n"
 
 abbrev feeds128 : List ℕ
 feeds128 =
-    below "unit\tu\nout\tu\tw\nout\tu\tx\nout\tu\ty\nout\tu\tz\n" ++ lines "abcd" "in\tu\t" "\tdelayed\n"
+    below "unit\tu\nout\tu\tw\nout\tu\tx\nout\tu\ty\nout\tu\tz\n"
+    ++ lines "abcd" "in\tu\t" "\tdelayed\n"
     ++ lines "abcd" "feed\tu\t" "\tw\n" ++ lines "abcd" "feed\tu\t" "\tx\n"
     ++ lines "abcd" "feed\tu\t" "\ty\n" ++ lines "abcd" "feed\tu\t" "\tz\n"
 
@@ -71,7 +73,10 @@ tables =
     -- one name in two units; numbers by line over the whole text
     ∷ (2 ∷ 2 ∷ 0 ∷ 0 ∷ 1 ∷ 0 ∷ [], below "unit\ta\nunit\tb\nout\tb\ty\nout\ta\ty\n")
     -- one name for a unit, an output and an input
-    ∷ (1 ∷ 1 ∷ 1 ∷ 0 ∷ 0 ∷ 0 ∷ 0 ∷ 0 ∷ [], below "unit\ta\nout\ta\ta\nin\ta\ta\tdelayed\njoin\ta\ta\ta\ta\n")
+    ∷ (
+      1 ∷ 1 ∷ 1 ∷ 0 ∷ 0 ∷ 0 ∷ 0 ∷ 0 ∷ [],
+      below "unit\ta\nout\ta\ta\nin\ta\ta\tdelayed\njoin\ta\ta\ta\ta\n",
+    )
     -- a feed from input 1 to output 0
     ∷ (
       1 ∷ 1 ∷ 2 ∷ 1 ∷ 0 ∷ 0 ∷ 0 ∷ 0 ∷ 1 ∷ 0 ∷ 0 ∷ 1 ∷ 0 ∷ [],
@@ -143,14 +148,15 @@ refusals =
 
 examples :
     (map (λ (e : List ℕ × List ℕ). reading 644 (e .1)) tables
-    ≡ map (λ (e : List ℕ × List ℕ). record { number = 0; place = length (e .0); bytes = e .0 }) tables)
+    ≡ map (λ (e : List ℕ × List ℕ). record { number = 0; place = length (e .0); bytes = e .0 })
+    tables)
     × (map (λ (e : ℕ × ℕ × List ℕ). reading 644 (e .2)) refusals
     ≡ map (λ (e : ℕ × ℕ × List ℕ). stopped (e .0) (e .1)) refusals)
     × (reading 12 example ≡ reading 644 example)
     × (reading 11 example ≡ stopped 34 0)
     × (reading 0 (ported "") ≡ stopped 31 4)
-unfolding allowed same grown parted rows word place times lineOf firstBad blank unitNamed outputNamed
-    inputNamed feedOf loose known addUnit addOutput addInput addFeed joined addJoin refused refuse taken
-    isName faulty kindOf unitLine outLine inLine feedLine joinLine line stopped pairs packed ending
-    linesFrom version lineByLine reading
+unfolding allowed same grown parted rows word place times lineOf firstBad blank unitNamed
+    outputNamed inputNamed feedOf loose known addUnit addOutput addInput addFeed joined addJoin
+    refused refuse taken isName faulty kindOf unitLine outLine inLine feedLine joinLine line stopped
+    pairs packed ending linesFrom version lineByLine reading
 examples = (refl, refl, refl, refl, refl)

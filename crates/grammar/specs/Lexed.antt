@@ -1,4 +1,4 @@
--- What a reader of fields promises of the line that begins at place a, and what follows for a field.
+-- What a reader of fields promises of the line that begins at place a, and what a field then is.
 use Prim.Native.Nat.{ℕ, _+_, _-_, _<_, _≤_}
 use mathlib.Core.Path.{_≡_, refl, ap, _∙_}
 use mathlib.Core.Bool.{Bool, true, false, cond}
@@ -9,7 +9,7 @@ use lib.Dec.{eqb}
 use Rattle.grammar.specs.Words.{tab, lf}
 use Rattle.grammar.specs.Rows.{rows, rowAt, word, front, fieldAt, wordEnd, stretch}
 
--- the first five fields begin at `from` and end at `to`; the line has `count` fields, `next` begins the next
+-- the first five fields begin at `from`, end at `to`; `count` fields; `next` begins the next line
 pub record Lexed (t : List ℕ) (a : ℕ) (from to : List ℕ) (count next : ℕ) : Type 0 where
   pub count-is : count ≡ length (rowAt t a)
   pub some : 0 < count
@@ -26,7 +26,8 @@ front-prefix [] = refl
 front-prefix (x ∷ xs) = go (eqb x lf) (eqb x tab) (front-prefix xs)
   where
     go : (l p : Bool) → take (length (front xs)) xs ≡ front xs
-        → take (length (cond l [] (cond p [] (x ∷ front xs)))) (x ∷ xs) ≡ cond l [] (cond p [] (x ∷ front xs))
+        → take (length (cond l [] (cond p [] (x ∷ front xs)))) (x ∷ xs)
+        ≡ cond l [] (cond p [] (x ∷ front xs))
     go true p ih = refl
     go false true ih = refl
     go false false ih = rw ih

@@ -7,8 +7,8 @@ use lib.Dec.{eqb, ltb, leb}
 use Rattle.grammar.specs.Quoted.{ascii}
 use Rattle.grammar.specs.Words.{same}
 use Rattle.grammar.specs.Rows.{word}
-use Rattle.grammar.specs.Draft.{Draft, unjoined, inputOf, unitNamed, outputNamed, inputNamed, feedOf}
-use Rattle.grammar.specs.Draft.{known, addUnit, addOutput, addInput, addFeed, addJoin}
+use Rattle.grammar.specs.Draft.{Draft, unjoined, inputOf, unitNamed, outputNamed, inputNamed}
+use Rattle.grammar.specs.Draft.{feedOf, known, addUnit, addOutput, addInput, addFeed, addJoin}
 
 -- a refusal's number, or 0, and the draft after the line
 pub record Outcome : Type 0 where
@@ -59,7 +59,7 @@ outLine d f =
     (refuse (leb 96 (length (d .outputs))) 29 d
     (taken (addOutput d (record { owner = u; name = word f 2 })))))))
 
--- `in`, unit, name, `delayed` or `reactive`; k is the line; the kind word is no name, so an empty one is 28
+-- `in`, unit, name, `delayed` or `reactive`; k is the line; an empty kind word is no name: 28
 unfoldable pub inLine : Draft → ℕ → List (List ℕ) → Outcome
 inLine d k f =
     let u = unitNamed d (word f 1) in

@@ -1,3 +1,4 @@
+-- Laws of the judge: its scans, refusals, turns and records; and what its contracts settle.
 pub mod Scanning
 pub mod Refusals
 pub mod Scanned

@@ -22,7 +22,8 @@ module _ (number count first none : ℕ) where
   pub within-no : count ≤ number → none ≡ cond (ltb number count) (first + number) none
   within-no h = rw (lt-false number count h)
 
-module _ (t : List ℕ) (r : Record) (u y x : ℕ) (eu : u ≡ units t) (ey : y ≡ outputs t) (ex : x ≡ inputs t) where
+module _ (t : List ℕ) (r : Record) (u y x : ℕ) (eu : u ≡ units t) (ey : y ≡ outputs t)
+    (ex : x ≡ inputs t) where
   pub record-step : (c : ℕ) → r .kind ≡ 0 → c ≡ cond (ltb (r .number) u) (0 + r .number) (u + y + x)
       → c ≡ numbered (shapeOf t) r
   unfolding numbered
@@ -35,20 +36,25 @@ module _ (t : List ℕ) (r : Record) (u y x : ℕ) (eu : u ≡ units t) (ey : y 
   unfolding numbered
   record-get c k e = e ∙ rw (k, eu, ey, ex)
 
-  pub record-set : (c : ℕ) → r .kind ≡ 2 → c ≡ cond (ltb (r .number) x) (u + y + r .number) (u + y + x)
+  pub record-set : (c : ℕ) → r .kind ≡ 2
+      → c ≡ cond (ltb (r .number) x) (u + y + r .number) (u + y + x)
       → c ≡ numbered (shapeOf t) r
   unfolding numbered
   record-set c k e = e ∙ rw (k, eu, ey, ex)
 
-  pub record-none : (r .kind ≡ 0 → ⊥) → (r .kind ≡ 1 → ⊥) → (r .kind ≡ 2 → ⊥) → u + y + x ≡ numbered (shapeOf t) r
+  pub record-none : (r .kind ≡ 0 → ⊥) → (r .kind ≡ 1 → ⊥) → (r .kind ≡ 2 → ⊥)
+      → u + y + x ≡ numbered (shapeOf t) r
   unfolding numbered
-  record-none a b c = rw (ne-eqb (r .kind) 0 a, ne-eqb (r .kind) 1 b, ne-eqb (r .kind) 2 c, eu, ey, ex)
+  record-none a b c =
+      rw (ne-eqb (r .kind) 0 a, ne-eqb (r .kind) 1 b, ne-eqb (r .kind) 2 c, eu, ey, ex)
 
 -- what a record is answered, and the marks that it leaves
 module _ (s : Shape) (r : Record) (d : List Bool) (c n : ℕ) (ec : c ≡ numbered s r)
     (en : n ≡ refusalAt s (marks d) c) where
   abbrev Judged : List Bool → Type 0
-  Judged e = (n ≡ refusalAt s (marks d) (numbered s r)) × (e ≡ cond (eqb n 0) (set d (numbered s r) true) d)
+  Judged e =
+      (n ≡ refusalAt s (marks d) (numbered s r))
+      × (e ≡ cond (eqb n 0) (set d (numbered s r) true) d)
 
   pub record-taken : n ≡ 0 → Judged (set d c true)
   record-taken h = rw (← ec) (en, rw (eq-eqb n 0 h))

@@ -64,7 +64,8 @@ module _ (s : Shape) (done : ℕ → Bool) (again : Bool) where
         let f : unset s done u ≡ true = (rw e at a) in
         sym (refuse-on _ _ _ new ∙ refuse-on _ _ _ e ∙ refuse-at _ _ _ f)
 
-    pub step-0 : (u : ℕ) → (early s done u || unset s done u) ≡ false → 0 ≡ refusalOf s done (Step u) again
+    pub step-0 : (u : ℕ) → (early s done u || unset s done u) ≡ false
+        → 0 ≡ refusalOf s done (Step u) again
     unfolding refusalOf
     step-0 u a =
         let (e, f) = both (early s done u) (unset s done u) a in
@@ -81,10 +82,13 @@ module _ (u y x c : ℕ) where
   step-below k e = elim (decLt c u) [
     | yes h ↦ (let z : c ≡ k = (cc (call-step u y x c h)) in omega arith)
     | no h ↦ elim (decLt (c - u) y) [
-      | yes g ↦ absurd (let z : _≡_ {A = ℕ} 0 1 = (cc (call-get u y x c (omega arith) g)) in omega arith)
+      | yes g ↦ absurd (let z : _≡_ {A = ℕ} 0 1 = (cc (call-get u y x c (omega arith) g)) in
+          omega arith)
       | no g ↦ elim (decLt (c - u - y) x) [
-        | yes f ↦ absurd (let z : _≡_ {A = ℕ} 0 1 = (cc (call-set u y x c (omega arith) (omega arith) f)) in omega arith)
-        | no f ↦ absurd (let z : _≡_ {A = ℕ} 0 1 = (cc (call-none u y x c (omega arith) (omega arith) (omega arith))) in omega arith)
+        | yes f ↦ absurd (let z : _≡_ {A = ℕ} 0 1 =
+            (cc (call-set u y x c (omega arith) (omega arith) f)) in omega arith)
+        | no f ↦ absurd (let z : _≡_ {A = ℕ} 0 1 =
+            (cc (call-none u y x c (omega arith) (omega arith) (omega arith))) in omega arith)
       ]
     ]
   ]
@@ -95,15 +99,18 @@ module _ (u y x c : ℕ) where
     | no h ↦ elim (decLt (c - u) y) [
       | yes g ↦ (let z : c - u ≡ k = (cc (call-get u y x c (omega arith) g)) in omega arith)
       | no g ↦ elim (decLt (c - u - y) x) [
-        | yes f ↦ absurd (let z : _≡_ {A = ℕ} 0 1 = (cc (call-set u y x c (omega arith) (omega arith) f)) in omega arith)
-        | no f ↦ absurd (let z : _≡_ {A = ℕ} 0 1 = (cc (call-none u y x c (omega arith) (omega arith) (omega arith))) in omega arith)
+        | yes f ↦ absurd (let z : _≡_ {A = ℕ} 0 1 =
+            (cc (call-set u y x c (omega arith) (omega arith) f)) in omega arith)
+        | no f ↦ absurd (let z : _≡_ {A = ℕ} 0 1 =
+            (cc (call-none u y x c (omega arith) (omega arith) (omega arith))) in omega arith)
       ]
     ]
   ]
 
 -- ---- a call number is judged as the call that it stands for
 
-module _ (t : List ℕ) (u y x c : ℕ) (eu : u ≡ units t) (ey : y ≡ outputs t) (ex : x ≡ inputs t) (k : Call)
+module _ (t : List ℕ) (u y x c : ℕ) (eu : u ≡ units t) (ey : y ≡ outputs t) (ex : x ≡ inputs t)
+    (k : Call)
     (ek : k ≡ callIn u y x c) where
   pub at-step : (unit : ℕ) → k ≡ Step unit → unit < units t
   at-step unit e = rw (← eu) (step-below u y x c unit (sym ek ∙ e))

@@ -58,7 +58,8 @@ some-or p q n = same-test (some (λ i. p i || q i) n) (some p n || some q n) to 
     ]
 
 -- an input of a kind up to 0 that stands in the way is delayed and set
-delayed-only : (o m : Bool) (k : ℕ) → (o && (leb k 0 && Bool·beq m (eqb k 0))) ≡ ((eqb k 0 && o) && m)
+delayed-only : (o m : Bool) (k : ℕ)
+    → (o && (leb k 0 && Bool·beq m (eqb k 0))) ≡ ((eqb k 0 && o) && m)
 delayed-only o m k = elim (ℕ-discrete k 0) [
   | yes e ↦ rw e (is o m)
   | no e ↦ rw (ne-eqb k 0 e, lt-leb k 0 (omega arith)) (not-so o)
@@ -75,7 +76,8 @@ delayed-only o m k = elim (ℕ-discrete k 0) [
 
 -- of a kind up to 1: delayed and set, or reactive and not
 both-kinds : (o m : Bool) (k : ℕ)
-    → (o && (leb k 1 && Bool·beq m (eqb k 0))) ≡ (((eqb k 0 && o) && m) || ((eqb k 1 && o) && not m))
+    → (o && (leb k 1 && Bool·beq m (eqb k 0)))
+    ≡ (((eqb k 0 && o) && m) || ((eqb k 1 && o) && not m))
 both-kinds o m k = elim (ℕ-discrete k 0) [
   | yes e ↦ rw e (delayed o m)
   | no e ↦ elim (ℕ-discrete k 1) [
@@ -100,17 +102,20 @@ both-kinds o m k = elim (ℕ-discrete k 0) [
 
 module _ (t : List ℕ) (d : List Bool) where
   module _ (u y : ℕ) (eu : u ≡ units t) (ey : y ≡ outputs t) where
-    module _ (sound : refusal t ≡ 0) (owners ks : List ℕ) (eo : owners ≡ inputOwners t) (ek : ks ≡ kinds t) (unit : ℕ)
+    module _ (sound : refusal t ≡ 0) (owners ks : List ℕ) (eo : owners ≡ inputOwners t)
+        (ek : ks ≡ kinds t) (unit : ℕ)
       where
         owners-long : length owners ≡ inputs t
         owners-long = ap length eo ∙ long-input-owners t (passed-sound t sound .long)
 
-        pub early-is : some (amissAt owners ks d (u + y) unit 0) (length owners) ≡ early (shapeOf t) (marks d) unit
+        pub early-is : some (amissAt owners ks d (u + y) unit 0) (length owners)
+            ≡ early (shapeOf t) (marks d) unit
         unfolding amissAt early hasKind
         early-is =
             rw (owners-long, eo, ek, eu, ey)
             (some-same _ _ (inputs t)
-            (λ x. delayed-only (eqb (getD (inputOwners t) x 0) unit) (marks d (units t + outputs t + x))
+            (λ x. delayed-only (eqb (getD (inputOwners t) x 0) unit)
+            (marks d (units t + outputs t + x))
             (getD (kinds t) x 0)))
 
         pub either-is : some (amissAt owners ks d (u + y) unit 1) (length owners)
@@ -119,7 +124,8 @@ module _ (t : List ℕ) (d : List Bool) where
         either-is =
             rw (owners-long, eo, ek, eu, ey)
             (some-same _ _ (inputs t)
-            (λ x. both-kinds (eqb (getD (inputOwners t) x 0) unit) (marks d (units t + outputs t + x))
+            (λ x. both-kinds (eqb (getD (inputOwners t) x 0) unit)
+            (marks d (units t + outputs t + x))
             (getD (kinds t) x 0))
             ∙ some-or _ _ (inputs t))
 
@@ -129,7 +135,8 @@ module _ (t : List ℕ) (d : List Bool) where
     unfed-is ps output f ep ef = rw (ep, eu, ey, ef)
 
   module _ (part : List ℕ) (at a : ℕ) (r : Bool) (ea : a ≡ getD part at 0) where
-    pub unstepped-is : part ≡ outputOwners t → r ≡ marks d a → not r ≡ unstepped (shapeOf t) (marks d) at
+    pub unstepped-is : part ≡ outputOwners t → r ≡ marks d a
+        → not r ≡ unstepped (shapeOf t) (marks d) at
     unfolding unstepped
     unstepped-is ep er = rw (er, ea, ep)
 
@@ -140,7 +147,8 @@ module _ (t : List ℕ) (d : List Bool) where
 
 -- ---- the parts of a sound table have room for the scans
 
-module _ (t : List ℕ) (sound : refusal t ≡ 0) (u y : ℕ) (eu : u ≡ units t) (ey : y ≡ outputs t) where
+module _ (t : List ℕ) (sound : refusal t ≡ 0) (u y : ℕ) (eu : u ≡ units t)
+    (ey : y ≡ outputs t) where
   pub inputs-room : (owners ks : List ℕ) → owners ≡ inputOwners t → ks ≡ kinds t
       → (length ks ≡ length owners) × (u + y + length owners ≤ 224)
   inputs-room owners ks eo ek =
@@ -148,7 +156,8 @@ module _ (t : List ℕ) (sound : refusal t ≡ 0) (u y : ℕ) (eu : u ≡ units 
       let a = ap length eo ∙ long-input-owners t (s .long) in
       (ap length ek ∙ long-kinds t (s .long) ∙ sym a, omega (arith, few-calls t s))
 
-  pub feeds-room : (ps : List ℕ) (f : ℕ) → ps ≡ pairs t → f ≡ feeds t → (2 * f ≤ length ps) × (u + y ≤ 224)
+  pub feeds-room : (ps : List ℕ) (f : ℕ) → ps ≡ pairs t → f ≡ feeds t
+      → (2 * f ≤ length ps) × (u + y ≤ 224)
   feeds-room ps f ep ef =
       let s = passed-sound t sound in
       let a = ap length ep ∙ long-pairs t (s .long) in

@@ -24,7 +24,8 @@ module _ (done : List Bool) (call : ℕ) where
   mark-above h = rw (lt-false call 224 h)
 
 module _ (owners kinds : List ℕ) (done : List Bool) (first unit most x : ℕ) where
-  pub amiss-other : (getD owners x 0 ≡ unit → ⊥) → false ≡ amissAt owners kinds done first unit most x
+  pub amiss-other : (getD owners x 0 ≡ unit → ⊥)
+      → false ≡ amissAt owners kinds done first unit most x
   unfolding amissAt
   amiss-other n = rw (ne-eqb (getD owners x 0) unit n)
 
@@ -33,7 +34,8 @@ module _ (owners kinds : List ℕ) (done : List Bool) (first unit most x : ℕ) 
   unfolding amissAt
   amiss-kind e h = rw (eq-eqb (getD owners x 0) unit e, lt-leb (getD kinds x 0) most h)
 
-  pub amiss-mark : getD owners x 0 ≡ unit → getD kinds x 0 ≤ most → (r : Bool) → r ≡ marks done (first + x)
+  pub amiss-mark : getD owners x 0 ≡ unit → getD kinds x 0 ≤ most → (r : Bool)
+      → r ≡ marks done (first + x)
       → Bool·beq r (eqb (getD kinds x 0) 0) ≡ amissAt owners kinds done first unit most x
   unfolding amissAt
   amiss-mark e h r q = rw (eq-eqb (getD owners x 0) unit e, le-leb (getD kinds x 0) most h, q)
@@ -51,7 +53,8 @@ module _ (ps : List ℕ) (done : List Bool) (first output k : ℕ) where
 -- ---- a scan that looks at two in a turn
 
 -- what holds below k and of the next two holds below k + 2
-pub two-more : (P : ℕ → Type 0) (k : ℕ) → ((i : ℕ) → i < k → P i) → P k → P (k + 1) → (i : ℕ) → i < k + 2 → P i
+pub two-more : (P : ℕ → Type 0) (k : ℕ) → ((i : ℕ) → i < k → P i) → P k → P (k + 1) → (i : ℕ)
+    → i < k + 2 → P i
 two-more P k h a b i l = below-more P (k + 1) (below-more P k h a) b i (omega arith)
 
 -- the one left over decides

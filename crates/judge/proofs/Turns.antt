@@ -49,34 +49,49 @@ module _ (t : List ℕ) (run : Run) (c n : ℕ) where
   take-unsound e h = rw (← e, ne-eqb n 0 h, ne-eqb n 0 h)
 
   module _ (sound : refusal t ≡ 0) (e : n ≡ refusalAt (shapeOf t) (marks (run .done)) c) where
-    pub take-refused : (n ≡ 0 → ⊥) → _≡_ {A = Taken} (record { run = run; number = n }) (taken t run c)
+    pub take-refused : (n ≡ 0 → ⊥)
+        → _≡_ {A = Taken} (record { run = run; number = n }) (taken t run c)
     unfolding taken advanced
     take-refused h = rw (eq-eqb (refusal t) 0 sound, ← e, ne-eqb n 0 h)
 
     pub take-taken : n ≡ 0
-        → _≡_ {A = Taken} (record { run = record { done = set (run .done) c true }; number = 0 }) (taken t run c)
+        → _≡_ {A = Taken} (record { run = record { done = set (run .done) c true }; number = 0 })
+        (taken t run c)
     unfolding taken advanced
     take-taken h = rw (eq-eqb (refusal t) 0 sound, ← e, eq-eqb n 0 h)
 
 -- ---- the calls of an order in turn
 
 module _ (s : Shape) (l : List ℕ) where
-  pub turn-starts : verdictFrom s none l 0 ≡ verdictFrom s (marks (replicate 224 false)) (drop 0 l) 0
+  pub turn-starts : verdictFrom s none l 0
+      ≡ verdictFrom s (marks (replicate 224 false)) (drop 0 l) 0
   turn-starts = ap (λ d. verdictFrom s d l 0) (sym marks-none)
 
-  module _ (d : List Bool) (k n : ℕ) (h : k < length l) (e : n ≡ refusalAt s (marks d) (getD l k 0)) where
+  module _ (d : List Bool) (k n : ℕ) (h : k < length l)
+      (e : n ≡ refusalAt s (marks d) (getD l k 0)) where
     pub turn-on : n ≡ 0 → getD l k 0 < 224 → length d ≡ 224
         → verdictFrom s (marks d) (drop k l) k
         ≡ verdictFrom s (marks (set d (getD l k 0) true)) (drop (k + 1) l) (k + 1)
     turn-on o small long =
-        rw (drop-cons l k 0 h, verdict-on s (marks d) (getD l k 0) (drop (suc k) l) k (sym e ∙ o), add-one)
-        (ap (λ q. verdictFrom s q (drop (suc k) l) (suc k)) (sym (marks-set d (getD l k 0) small long)))
+        rw (
+          drop-cons l k 0 h,
+          verdict-on s (marks d) (getD l k 0) (drop (suc k) l) k (sym e ∙ o),
+          add-one,
+        )
+        (ap (λ q. verdictFrom s q (drop (suc k) l) (suc k))
+        (sym (marks-set d (getD l k 0) small long)))
 
     pub turn-off : (n ≡ 0 → ⊥) → verdictFrom s (marks d) (drop k l) k ≡ answer n k
     turn-off o =
-        rw (drop-cons l k 0 h, verdict-off s (marks d) (getD l k 0) (drop (suc k) l) k (λ z. o (e ∙ z)), ← e)
+        rw (
+          drop-cons l k 0 h,
+          verdict-off s (marks d) (getD l k 0) (drop (suc k) l) k
+              (λ z. o (e ∙ z)),
+          ← e,
+        )
 
-  pub turn-ends : (d : List Bool) (k : ℕ) → length l ≤ k → verdictFrom s (marks d) (drop k l) k ≡ atEnd s k
+  pub turn-ends : (d : List Bool) (k : ℕ) → length l ≤ k
+      → verdictFrom s (marks d) (drop k l) k ≡ atEnd s k
   unfolding verdictFrom
   turn-ends d k h = rw (drop-of-length-le l h)
 
@@ -99,7 +114,8 @@ module _ (t l : List ℕ) (a : Answer) (e : a ≡ checked t) where
       let n = checked-number t a e in
       rw n (sym (verdict-unsound t l (λ z. h (n ∙ z))))
 
-  pub verdict-judged : a .number ≡ 0 → (b : Answer) → b ≡ verdictFrom (shapeOf t) none l 0 → b ≡ verdictOf t l
+  pub verdict-judged : a .number ≡ 0 → (b : Answer) → b ≡ verdictFrom (shapeOf t) none l 0
+      → b ≡ verdictOf t l
   verdict-judged h b q = q ∙ sym (verdict-sound t l (sym (checked-number t a e) ∙ h))
 
 -- all that `verdict` promises

@@ -54,7 +54,8 @@ module _ (t : List ℕ) (rs : List Record) where
   abbrev pub Carries : ℕ → Type 0
   Carries i =
       (length (marked i) ≡ 224)
-      × (verdictFrom (shapeOf t) none all 0 ≡ verdictFrom (shapeOf t) (marks (marked i)) (drop i all) i)
+      × (verdictFrom (shapeOf t) none all 0
+      ≡ verdictFrom (shapeOf t) (marks (marked i)) (drop i all) i)
 
   pub marked-starts : replicate 224 false ≡ marked 0
   unfolding markedUpTo
@@ -64,7 +65,8 @@ module _ (t : List ℕ) (rs : List Record) where
   unfolding markedUpTo
   marked-next i = rw add-one
 
-  pub marked-on : (i n : ℕ) → n ≡ 0 → cond (eqb n 0) (set (marked i) (call i) true) (marked i) ≡ marked (i + 1)
+  pub marked-on : (i n : ℕ) → n ≡ 0
+      → cond (eqb n 0) (set (marked i) (call i) true) (marked i) ≡ marked (i + 1)
   marked-on i n z = rw (eq-eqb n 0 z) (sym (marked-next i))
 
   pub carries-starts : Carries 0
@@ -92,9 +94,11 @@ module _ (t : List ℕ) (rs : List Record) where
 
     pub carries-off : n ≢ 0 → answer n i ≡ verdictOf t all
     carries-off z =
-        sym (turn-off (shapeOf t) all (marked i) i n here refused-at z) ∙ sym (c .1) ∙ sym (verdict-sound t all sound)
+        sym (turn-off (shapeOf t) all (marked i) i n here refused-at z) ∙ sym (c .1)
+        ∙ sym (verdict-sound t all sound)
 
-  pub carries-ends : refusal t ≡ 0 → (i : ℕ) → i ≡ length rs → Carries i → atEnd (shapeOf t) i ≡ verdictOf t all
+  pub carries-ends : refusal t ≡ 0 → (i : ℕ) → i ≡ length rs → Carries i
+      → atEnd (shapeOf t) i ≡ verdictOf t all
   carries-ends sound i e c =
       sym (turn-ends (shapeOf t) all (marked i) i (omega (arith, numbered-length (shapeOf t) rs)))
       ∙ sym (c .1) ∙ sym (verdict-sound t all sound)

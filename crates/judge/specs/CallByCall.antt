@@ -1,4 +1,4 @@
--- An order judged call by call, from the start, by a run that is handed on: SPECIFICATION, Judging 2 and 7.
+-- An order judged call by call by a run that is handed on: SPECIFICATION, Judging 2 and 7.
 use mathlib.Core.Path.{_≡_}
 use mathlib.Core.List.{List, [], _∷_}
 use Prim.Native.Nat.{ℕ, _<_}
@@ -19,7 +19,7 @@ abbrev pub answeredAt : List ℕ → Run → List ℕ → ℕ → ℕ
 answeredAt t run l i = taken t (runAfter t run (take i l)) (getD l i 0) .number
 
 -- every call is answered 0, and there are N of them;
--- the table is asked apart from them: of a table of no bytes N is 0, so that no call would be put to it
+-- the table is asked apart from them: of no bytes N is 0, so that no call would be put to it
 pub record TakenInTurn (t order : List ℕ) : Type 0 where
   pub sound : Sound t
   pub each : (i : ℕ) → i < length order → answeredAt t fresh order i ≡ 0

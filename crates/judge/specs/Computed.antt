@@ -1,4 +1,4 @@
--- Records and judged runs on table A, computed: a definition that says something else makes one false.
+-- Records and judged runs on table A, computed: a definition that says else makes one false.
 use mathlib.Core.Path.{_≡_, refl}
 use mathlib.Core.Bool.{true}
 use mathlib.Core.List.{[], _∷_}

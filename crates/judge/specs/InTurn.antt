@@ -17,7 +17,8 @@ use Rattle.table.specs.Sound.{Sound}
 use Rattle.table.specs.Checked.{passed-sound, sound-passed}
 use Rattle.judging.specs.Conditions.{refusalAt}
 use Rattle.judging.specs.Verdict.{answer, atEnd, verdictFrom, verdictOf}
-use Rattle.judging.specs.Judged.{verdict-on, verdict-off, verdict-sound, verdict-unsound, passed-iff, passed-N}
+use Rattle.judging.specs.Judged.{verdict-on, verdict-off, verdict-sound}
+use Rattle.judging.specs.Judged.{verdict-unsound, passed-iff, passed-N}
 use Rattle.judging.specs.Demand.{taken-small}
 use Rattle.judge.specs.declared.Run.{Run}
 use Rattle.judge.specs.Marks.{marks, marks-none, marks-set}
@@ -40,10 +41,12 @@ module _ (t : List ℕ) where
   module _ (z : refusal t ≡ 0) where
     -- ---- one call of a run on a sound table
 
-    taken-number : (run : Run) (c : ℕ) → taken t run c .number ≡ refusalAt (shapeOf t) (marks (run .done)) c
+    taken-number : (run : Run) (c : ℕ)
+        → taken t run c .number ≡ refusalAt (shapeOf t) (marks (run .done)) c
     unfolding taken
     taken-number run c =
-        rw (eq-eqb (refusal t) 0 z) (advanced-number run c (refusalAt (shapeOf t) (marks (run .done)) c))
+        rw (eq-eqb (refusal t) 0 z)
+        (advanced-number run c (refusalAt (shapeOf t) (marks (run .done)) c))
 
     -- a call that is taken leaves its mark, and no other
     taken-done : (run : Run) (c : ℕ) → taken t run c .number ≡ 0
@@ -57,16 +60,18 @@ module _ (t : List ℕ) where
         → marks (taken t run c .run .done) ≡ add c (marks (run .done))
     taken-marks run c long e =
         ap marks (taken-done run c e)
-        ∙ marks-set (run .done) c (taken-small t z (marks (run .done)) c _ (taken-number run c) e) long
+        ∙ marks-set (run .done) c
+        (taken-small t z (marks (run .done)) c _ (taken-number run c) e) long
 
     -- ---- the calls of a list in turn
 
-    -- where the first i calls are answered 0, the verdict is that on what is left, from the run after them
+    -- where the first i calls are answered 0, the verdict is that on the rest, from the run then
     goes-on : (run : Run) (l : List ℕ) (i k : ℕ) → length (run .done) ≡ 224 → i ≤ length l
         → ((j : ℕ) → j < i → answeredAt t run l j ≡ 0)
         → verdictFrom (shapeOf t) (marks (run .done)) l k
         ≡ verdictFrom (shapeOf t) (marks (runAfter t run (take i l) .done)) (drop i l) (k + i)
-    goes-on run l zero k long h each = ap (verdictFrom (shapeOf t) (marks (run .done)) l) (omega arith)
+    goes-on run l zero k long h each =
+        ap (verdictFrom (shapeOf t) (marks (run .done)) l) (omega arith)
     goes-on run [] (suc i) k long h each = absurd (omega arith)
     goes-on run (c ∷ l) (suc i) k long h each =
         let s = shapeOf t in
@@ -74,20 +79,24 @@ module _ (t : List ℕ) where
         let e : taken t run c .number ≡ 0 = each 0 (omega arith) in
         verdict-on s (marks (run .done)) c l k (sym (taken-number run c) ∙ e)
         ∙ ap (λ d. verdictFrom s d l (suc k)) (sym (taken-marks run c long e))
-        ∙ goes-on next l i (suc k) (ap length (taken-done run c e) ∙ simp length-set long) (omega arith)
+        ∙ goes-on next l i (suc k) (ap length (taken-done run c e) ∙ simp length-set long)
+        (omega arith)
         (λ j g. each (suc j) (omega arith))
         ∙ ap (verdictFrom s (marks (runAfter t next (take i l) .done)) (drop i l)) (omega arith)
 
-    from-start : (l : List ℕ) (i : ℕ) → i ≤ length l → ((j : ℕ) → j < i → answeredAt t fresh l j ≡ 0)
-        → verdictOf t l ≡ verdictFrom (shapeOf t) (marks (runAfter t fresh (take i l) .done)) (drop i l) i
+    from-start : (l : List ℕ) (i : ℕ) → i ≤ length l
+        → ((j : ℕ) → j < i → answeredAt t fresh l j ≡ 0)
+        → verdictOf t l ≡ verdictFrom (shapeOf t) (marks (runAfter t fresh (take i l) .done))
+        (drop i l) i
     unfolding fresh
     from-start l i h each =
         verdict-sound t l z
         ∙ ap (λ d. verdictFrom (shapeOf t) d l 0) (sym marks-none)
         ∙ goes-on fresh l i 0 (length-replicate {A = Bool} 224 false) h each
-        ∙ ap (verdictFrom (shapeOf t) (marks (runAfter t fresh (take i l) .done)) (drop i l)) (omega arith)
+        ∙ ap (verdictFrom (shapeOf t) (marks (runAfter t fresh (take i l) .done)) (drop i l))
+        (omega arith)
 
-  -- where each call is answered 0, the verdict is that at the end: 0 with N, or 18 with the order's length
+  -- where each call is answered 0, the verdict is that at the end: 0 with N, or 18 with the length
   pub all-taken : Sound t → (l : List ℕ) → ((i : ℕ) → i < length l → answeredAt t fresh l i ≡ 0)
       → verdictOf t l ≡ atEnd (shapeOf t) (length l)
   unfolding verdictFrom
@@ -96,9 +105,11 @@ module _ (t : List ℕ) where
       ∙ rw (drop-of-length-le l {i = length l} (omega arith))
 
   -- whatever the table: the first call that is not answered 0 has the verdict's number and place
-  pub first-refused : (l : List ℕ) (i : ℕ) → i < length l → ((j : ℕ) → j < i → answeredAt t fresh l j ≡ 0)
+  pub first-refused : (l : List ℕ) (i : ℕ) → i < length l
+      → ((j : ℕ) → j < i → answeredAt t fresh l j ≡ 0)
       → answeredAt t fresh l i ≢ 0 → verdictOf t l ≡ answer (answeredAt t fresh l i) i
-  first-refused l i h each ne = elim (ℕ-discrete (refusal t) 0) [ yes z ↦ sound z | no z ↦ unsound z i each ]
+  first-refused l i h each ne =
+      elim (ℕ-discrete (refusal t) 0) [ yes z ↦ sound z | no z ↦ unsound z i each ]
     where
       sound : refusal t ≡ 0 → verdictOf t l ≡ answer (answeredAt t fresh l i) i
       sound z =
@@ -106,7 +117,8 @@ module _ (t : List ℕ) where
           let e = taken-number z run (getD l i 0) in
           from-start z l i (omega arith) each
           ∙ rw (drop-cons l i 0 h)
-          (verdict-off (shapeOf t) (marks (run .done)) (getD l i 0) (drop (suc i) l) i (λ q. ne (e ∙ q))
+          (verdict-off (shapeOf t) (marks (run .done)) (getD l i 0) (drop (suc i) l) i
+          (λ q. ne (e ∙ q))
           ∙ ap (λ n. answer n i) (sym e))
 
       unsound : refusal t ≢ 0 → (k : ℕ) → ((j : ℕ) → j < k → answeredAt t fresh l j ≡ 0)

@@ -31,6 +31,11 @@ pub marks-set : (done : List Bool) (c : ℕ) → c < 224 → length done ≡ 224
 unfolding marks
 marks-set done c h e = fun-ext (λ x. elim (ℕ-discrete x c) [
   | yes z ↦
-      rw (z, lt-true c 224 h, getD-set-same done c true false (omega arith), is-true (eqb c c) (eqb-refl c))
+      rw (
+        z,
+        lt-true c 224 h,
+        getD-set-same done c true false (omega arith),
+        is-true (eqb c c) (eqb-refl c),
+      )
   | no z ↦ rw (getD-set-other done c x true false z, is-false (eqb x c) (eq-false x c z))
 ])

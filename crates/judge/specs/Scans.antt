@@ -7,7 +7,7 @@ use lib.ListN.{getD}
 use Rattle.table.specs.Packed.{pairInput, pairOutput}
 use Rattle.judge.specs.Marks.{marks}
 
--- input x of the unit, of a kind up to `most`, stands in the way of its step: delayed and set, or reactive and not
+-- input x of the unit, of a kind up to `most`, bars its step: delayed and set, or reactive and not
 unfoldable pub amissAt : List ℕ → List ℕ → List Bool → ℕ → ℕ → ℕ → ℕ → Bool
 amissAt owners kinds done first unit most x =
     eqb (getD owners x 0) unit

@@ -27,7 +27,8 @@ fn step_refusal(table: &[u8], done: &[bool; 224], again: bool, unit: usize) -> u
     requires { ⌜ refusal (now table) ≡ 0 ⌝ }
     requires { ⌜ unit < units (now table) ⌝ }
     ensures { λ r.
-        ⌜ r ≡ refusalOf (shapeOf (now (table .entry))) (marks (now (done .entry))) (Step unit) again ⌝ }
+        ⌜ r ≡ refusalOf (shapeOf (now (table .entry))) (marks (now (done .entry)))
+        (Step unit) again ⌝ }
 {
     if again {
         return 12;
@@ -50,7 +51,8 @@ fn get_refusal(table: &[u8], done: &[bool; 224], again: bool, output: usize) -> 
     requires { ⌜ refusal (now table) ≡ 0 ⌝ }
     requires { ⌜ output < outputs (now table) ⌝ }
     ensures { λ r.
-        ⌜ r ≡ refusalOf (shapeOf (now (table .entry))) (marks (now (done .entry))) (Get output) again ⌝ }
+        ⌜ r ≡ refusalOf (shapeOf (now (table .entry))) (marks (now (done .entry)))
+        (Get output) again ⌝ }
 {
     if again {
         return 12;
@@ -74,7 +76,8 @@ fn get_refusal(table: &[u8], done: &[bool; 224], again: bool, output: usize) -> 
 // The set of an input: 12, 17 or 0.
 fn set_refusal(table: &[u8], done: &[bool; 224], again: bool, input: usize) -> u8
     ensures { λ r.
-        ⌜ r ≡ refusalOf (shapeOf (now (table .entry))) (marks (now (done .entry))) (Set input) again ⌝ }
+        ⌜ r ≡ refusalOf (shapeOf (now (table .entry))) (marks (now (done .entry)))
+        (Set input) again ⌝ }
 {
     if again {
         return 12;
@@ -88,7 +91,8 @@ fn set_refusal(table: &[u8], done: &[bool; 224], again: bool, input: usize) -> u
 // The number that a call is answered where these calls are done: 11 to 17, or 0.
 pub fn refusal_at(table: &[u8], done: &[bool; 224], call: usize) -> u8
     requires { ⌜ refusal (now table) ≡ 0 ⌝ }
-    ensures { λ r. ⌜ r ≡ refusalAt (shapeOf (now (table .entry))) (marks (now (done .entry))) call ⌝ }
+    ensures { λ r.
+        ⌜ r ≡ refusalAt (shapeOf (now (table .entry))) (marks (now (done .entry))) call ⌝ }
 {
     let again = marked(done, call);
     let asked = call_in(

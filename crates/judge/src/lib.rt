@@ -38,7 +38,7 @@ impl Run {
         Run { done: [false; 224] }
     }
 
-    // One call: 1 to 7 for an unsound table, then 11 to 17, each with the run as it was; or 0 with the next run.
+    // One call: 1 to 7 for an unsound table, or 11 to 17, with the run as it was; 0 with the next.
     pub fn take(self, table: &[u8], call: usize) -> Taken
         ensures { λ r. ⌜ r ≡ taken (now (table .entry)) self call ⌝ }
     {
@@ -67,7 +67,7 @@ impl Run {
     }
 }
 
-// The calls of an order in turn on a sound table: the first refusal, 18 where not N calls were taken, or 0.
+// The calls of an order in turn on a sound table: the first refusal, 18 if not N were taken, or 0.
 fn in_turn(table: &[u8], order: &[u8]) -> Answer
     requires { ⌜ refusal (now table) ≡ 0 ⌝ }
     ensures { λ r. ⌜ r ≡ verdictFrom (shapeOf (now (table .entry))) none (now (order .entry)) 0 ⌝ }
@@ -109,7 +109,8 @@ fn ended(table: &[u8], taken: usize) -> Answer
 pub fn verdict(table: &[u8], order: &[u8]) -> Answer
     ensures { λ r. ⌜ r ≡ verdictOf (now (table .entry)) (now (order .entry)) ⌝ }
     ensures { λ r. ⌜ (r .number ≡ 0)
-        ↔ (Sound (now (table .entry)) × Passes (shapeOf (now (table .entry))) none (now (order .entry))) ⌝ }
+        ↔ (Sound (now (table .entry))
+        × Passes (shapeOf (now (table .entry))) none (now (order .entry))) ⌝ }
 {
     let checked = check(table);
     let number = checked.number;

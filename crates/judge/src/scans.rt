@@ -31,7 +31,8 @@ fn amiss(
     requires { ⌜ first + x < 224 ⌝ }
     ensures { λ r.
         ⌜ r
-        ≡ amissAt (now (owners .entry)) (now (kinds .entry)) (now (done .entry)) first unit most x ⌝ }
+        ≡ amissAt (now (owners .entry)) (now (kinds .entry))
+        (now (done .entry)) first unit most x ⌝ }
 {
     if owners[x] != unit {
         return false;
@@ -87,7 +88,8 @@ fn lacking(pairs: &[u8], done: &[bool; 224], first: usize, output: u8, k: usize)
 pub fn some_lacking(pairs: &[u8], done: &[bool; 224], first: usize, output: u8, f: usize) -> bool
     requires { ⌜ 2 * f ≤ length (now pairs) ⌝ }
     requires { ⌜ first ≤ 224 ⌝ }
-    ensures { λ r. ⌜ r ≡ some (lackingAt (now (pairs .entry)) (now (done .entry)) first output) f ⌝ }
+    ensures { λ r.
+        ⌜ r ≡ some (lackingAt (now (pairs .entry)) (now (done .entry)) first output) f ⌝ }
 {
     let mut k = 0;
     while k + 1 < f {

@@ -1,14 +1,16 @@
--- Verdicts of SPECIFICATION, Examples, computed: a definition that says something else makes one false.
+-- Verdicts of SPECIFICATION, Examples, computed: a definition that says else makes one false.
 use mathlib.Core.Path.{_≡_, refl}
 use mathlib.Core.List.{[], _∷_}
 use Rattle.table.specs.Tables.{A, C, G}
 use Rattle.calls.specs.Computed.{words as call-words}
-use Rattle.judging.specs.Conditions.{early, unset, unstepped, unfed, ungot, refusalOf, refusalAt}
+use Rattle.judging.specs.Conditions.{early, unset, unstepped, unfed}
+use Rattle.judging.specs.Conditions.{ungot, refusalOf, refusalAt}
 use Rattle.judging.specs.Verdict.{answer, atEnd, verdictFrom, verdictOf}
 
 -- all that a verdict is computed with: `unfolding words` opens each of them
 unfoldable pub words : Unit {0}
-unfolding call-words early unset unstepped unfed ungot refusalOf refusalAt atEnd verdictFrom verdictOf
+unfolding call-words early unset unstepped unfed ungot refusalOf refusalAt atEnd verdictFrom
+    verdictOf
 words = tt
 
 -- the starred ones: passed; 16, 14 and 13

@@ -1,4 +1,4 @@
--- The conditions of one call where a set of calls is done, by rising number: SPECIFICATION, Judging 4.
+-- The conditions of a call where some calls are done, by rising number: SPECIFICATION, Judging 4.
 use mathlib.Core.Bool.{Bool, not, _&&_}
 use Prim.Native.Nat.{ℕ}
 use lib.Dec.{eqb}
@@ -31,7 +31,7 @@ module _ (s : Shape) (done : ℕ → Bool) where
   unfoldable pub ungot : ℕ → Bool
   ungot x = not (done (getNo s (s .source x)))
 
-  -- the number of the first condition that fails, or 0; `again` tells whether the call was done before
+  -- the number of the first condition that fails, or 0; `again`: the call was done before
   unfoldable pub refusalOf : Call → Bool → ℕ
   refusalOf (Step u) again = refuse again 12 (refuse (early u) 13 (refuse (unset u) 14 0))
   refusalOf (Get y) again = refuse again 12 (refuse (unstepped y) 15 (refuse (unfed y) 16 0))

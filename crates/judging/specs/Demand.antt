@@ -1,4 +1,4 @@
--- Demand 2 over the bytes: what is passed keeps the rules, and what the order's procedure writes is passed.
+-- Demand 2 over the bytes: what is passed keeps the rules; what the procedure writes is passed.
 use mathlib.Core.Path.{_≡_, sym, _∙_}
 use mathlib.Core.Logic.{_↔_}
 use mathlib.Core.Bool.{Bool}
@@ -32,7 +32,8 @@ module _ (t : List ℕ) where
       → (verdictOf t l .number ≡ 0)
       ↔ ((refusal t ≡ 0) × Keeps (total (shapeOf t)) (precedes (shapeOf t)) l)
   passed-keeps l = (
-    (λ e. let (z, p) = passed-iff t l .0 e in (z, passes-iff (shapeOf t) (passed-sound t z .wired) l .0 p)),
+    (λ e. let (z, p) = passed-iff t l .0 e in
+        (z, passes-iff (shapeOf t) (passed-sound t z .wired) l .0 p)),
     (λ (z, k). passed-iff t l .1 (z, passes-iff (shapeOf t) (passed-sound t z .wired) l .1 k)),
   )
 
@@ -47,13 +48,16 @@ module _ (t : List ℕ) where
   -- where the order's procedure places all N calls, the verdict on what it writes is a pass
   pub order-passed : refusal t ≡ 0
       → length (placed (total (shapeOf t)) (precedes (shapeOf t))) ≡ total (shapeOf t)
-      → verdictOf t (placed (total (shapeOf t)) (precedes (shapeOf t))) ≡ answer 0 (total (shapeOf t))
+      → verdictOf t (placed (total (shapeOf t)) (precedes (shapeOf t)))
+      ≡ answer 0 (total (shapeOf t))
   order-passed z e =
       let l = placed (total (shapeOf t)) (precedes (shapeOf t)) in
-      passed-N t l (passed-keeps l .1 (z, placed-first (total (shapeOf t)) (precedes (shapeOf t)) e .keeps))
+      passed-N t l (passed-keeps l .1
+      (z, placed-first (total (shapeOf t)) (precedes (shapeOf t)) e .keeps))
 
   -- a call that is taken is below 224
-  pub taken-small : refusal t ≡ 0 → (done : ℕ → Bool) (c n : ℕ) → n ≡ refusalAt (shapeOf t) done c → n ≡ 0
+  pub taken-small : refusal t ≡ 0 → (done : ℕ → Bool) (c n : ℕ) → n ≡ refusalAt (shapeOf t) done c
+      → n ≡ 0
       → c < 224
   taken-small z done c n e o =
       let m = meets-iff (shapeOf t) done c .0 (sym e ∙ o) in

@@ -32,7 +32,8 @@ module _ (s : Shape) where
   unfolding verdictFrom atEnd
   verdict-end done k e = rw (same k (total s) e)
 
-  pub verdict-short : (done : ℕ → Bool) (k : ℕ) → k ≢ total s → verdictFrom s done [] k ≡ answer 18 k
+  pub verdict-short : (done : ℕ → Bool) (k : ℕ) → k ≢ total s
+      → verdictFrom s done [] k ≡ answer 18 k
   unfolding verdictFrom atEnd
   verdict-short done k e = rw (other k (total s) e)
 
@@ -52,25 +53,31 @@ module _ (s : Shape) where
   abbrev pub MeetsAll : (ℕ → Bool) → List ℕ → ℕ → Type 0
   MeetsAll done l n = (i : ℕ) → i < n → Meets s (after done (take i l)) (getD l i 0)
 
-  pub one-more : (done : ℕ → Bool) (c : ℕ) (l : List ℕ) (n : ℕ) → Meets s done c → MeetsAll (add c done) l n
+  pub one-more : (done : ℕ → Bool) (c : ℕ) (l : List ℕ) (n : ℕ) → Meets s done c
+      → MeetsAll (add c done) l n
       → MeetsAll done (c ∷ l) (suc n)
   one-more done c l n m ms zero h = m
   one-more done c l n m ms (suc i) h = ms i (omega arith)
 
-  pub passes-cons : (done : ℕ → Bool) (c : ℕ) (l : List ℕ) → Meets s done c → Passes s (add c done) l
+  pub passes-cons : (done : ℕ → Bool) (c : ℕ) (l : List ℕ) → Meets s done c
+      → Passes s (add c done) l
       → Passes s done (c ∷ l)
-  passes-cons done c l m p = record { meets = one-more done c l (length l) m (p .meets); whole = p .whole }
+  passes-cons done c l m p =
+      record { meets = one-more done c l (length l) m (p .meets); whole = p .whole }
 
   pub passes-head : (done : ℕ → Bool) (c : ℕ) (l : List ℕ) → Passes s done (c ∷ l) → Meets s done c
   passes-head done c l p = p .meets 0 (omega arith)
 
-  pub passes-tail : (done : ℕ → Bool) (c : ℕ) (l : List ℕ) → Passes s done (c ∷ l) → Passes s (add c done) l
-  passes-tail done c l p = record { meets = λ i h. p .meets (suc i) (omega arith); whole = p .whole }
+  pub passes-tail : (done : ℕ → Bool) (c : ℕ) (l : List ℕ) → Passes s done (c ∷ l)
+      → Passes s (add c done) l
+  passes-tail done c l p =
+      record { meets = λ i h. p .meets (suc i) (omega arith); whole = p .whole }
 
   -- ---- a pass exactly where the order passes
 
   -- k is how many calls are done
-  passes-verdict : (done : ℕ → Bool) (l : List ℕ) (k : ℕ) → k ≡ count done (total s) → Passes s done l
+  passes-verdict : (done : ℕ → Bool) (l : List ℕ) (k : ℕ) → k ≡ count done (total s)
+      → Passes s done l
       → verdictFrom s done l k ≡ answer 0 (total s)
   passes-verdict done [] k e p =
       let z : k ≡ total s = e ∙ count-all done (total s) (p .whole) in
@@ -84,7 +91,11 @@ module _ (s : Shape) where
   verdict-passes : (done : ℕ → Bool) (l : List ℕ) (k : ℕ) → k ≡ count done (total s)
       → verdictFrom s done l k .number ≡ 0 → Passes s done l
   verdict-passes done [] k e p = elim (ℕ-discrete k (total s)) [
-    | yes z ↦ record { meets = λ i h. absurd (omega arith); whole = count-full done (total s) (sym e ∙ z) }
+    | yes z ↦ record {
+      meets = λ i h. absurd (omega arith);
+      whole = count-full done (total s)
+          (sym e ∙ z);
+    }
     | no z ↦ absurd (let q : _≡_ {A = ℕ} 18 0 = (rw (verdict-short done k z) at p) in omega arith)
   ]
   verdict-passes done (c ∷ l) k e p = elim (ℕ-discrete (refusalAt s done c) 0) [
@@ -112,7 +123,8 @@ module _ (s : Shape) where
 -- ---- over the bytes
 
 module _ (t : List ℕ) where
-  pub verdict-sound : (l : List ℕ) → refusal t ≡ 0 → verdictOf t l ≡ verdictFrom (shapeOf t) none l 0
+  pub verdict-sound : (l : List ℕ) → refusal t ≡ 0
+      → verdictOf t l ≡ verdictFrom (shapeOf t) none l 0
   unfolding verdictOf
   verdict-sound l e = rw (same (refusal t) 0 e)
 
@@ -121,7 +133,8 @@ module _ (t : List ℕ) where
   verdict-unsound l e = rw (other (refusal t) 0 e)
 
   -- the verdict is number 0 exactly where the table is sound and the order passes
-  pub passed-iff : (l : List ℕ) → (verdictOf t l .number ≡ 0) ↔ ((refusal t ≡ 0) × Passes (shapeOf t) none l)
+  pub passed-iff : (l : List ℕ) → (verdictOf t l .number ≡ 0)
+      ↔ ((refusal t ≡ 0) × Passes (shapeOf t) none l)
   passed-iff l = (to, from)
     where
       to : verdictOf t l .number ≡ 0 → (refusal t ≡ 0) × Passes (shapeOf t) none l
@@ -134,7 +147,8 @@ module _ (t : List ℕ) where
       from (z, p) = rw (verdict-sound l z) (from-start (shapeOf t) l .1 p)
 
   -- a pass has N as its place
-  pub passed-N : (l : List ℕ) → verdictOf t l .number ≡ 0 → verdictOf t l ≡ answer 0 (total (shapeOf t))
+  pub passed-N : (l : List ℕ) → verdictOf t l .number ≡ 0
+      → verdictOf t l ≡ answer 0 (total (shapeOf t))
   passed-N l e =
       let (z, p) = passed-iff l .0 e in
       verdict-sound l z ∙ from-start-N (shapeOf t) l p

@@ -13,7 +13,9 @@ use Rattle.calls.specs.declared.Call.the-variants.{Step, Get, Set}
 use Rattle.calls.specs.Number.{callOf, getNo, setNo}
 use Rattle.calls.specs.Numbers.{is-step, is-get, is-set, View, at-step, at-get, at-set, view}
 use Rattle.calls.specs.Precedence.{precedes}
-use Rattle.calls.specs.Neighbours.{feeds-found, found-feeds, step-get-holds, get-set-holds, set-get-holds, set-step-holds, step-set-holds, before-step, before-get, before-set}
+use Rattle.calls.specs.Neighbours.{feeds-found, found-feeds, step-get-holds}
+use Rattle.calls.specs.Neighbours.{get-set-holds, set-get-holds, set-step-holds}
+use Rattle.calls.specs.Neighbours.{step-set-holds, before-step, before-get, before-set}
 use Rattle.orders.specs.Keeps.{Keeps}
 use Rattle.orders.specs.Follows.{Follows, keeps→follows, follows→keeps}
 use Rattle.judging.specs.Passes.{Allows, Passes}
@@ -30,7 +32,7 @@ module _ (s : Shape) (ok : Wired s) where
       (rw (is-step s (s .inputOwner x) (ok .input-owned x h)) at al) in
       clash (done (setNo s x)) d (q .0 x h refl k)
 
-  -- where a passed rest follows, a delayed input that is set has its unit stepped: its step is yet to come otherwise
+  -- where a passed rest follows, the unit of a delayed input that is set has stepped
   late : (done : ℕ → Bool) (l : List ℕ) → Passes s done l → (x : ℕ) → x < s .inputs → s .kind x ≡ 0
       → T (done (setNo s x)) → T (done (s .inputOwner x))
   late done [] p x h k d = p .whole (s .inputOwner x) (omega (arith, ok .input-owned x h))
@@ -71,7 +73,8 @@ module _ (s : Shape) (ok : Wired s) where
                 ]))
           ]
 
-  passes→follows : (done : ℕ → Bool) (l : List ℕ) → Passes s done l → Follows (total s) (precedes s) done l
+  passes→follows : (done : ℕ → Bool) (l : List ℕ) → Passes s done l
+      → Follows (total s) (precedes s) done l
   passes→follows done [] p = p .whole
   passes→follows done (c ∷ l) p =
       let m = passes-head s done c l p in
@@ -83,7 +86,8 @@ module _ (s : Shape) (ok : Wired s) where
 
   -- a delayed input that is set has its unit stepped
   abbrev Timely : (ℕ → Bool) → Type 0
-  Timely done = (x : ℕ) → x < s .inputs → s .kind x ≡ 0 → T (done (setNo s x)) → T (done (s .inputOwner x))
+  Timely done =
+      (x : ℕ) → x < s .inputs → s .kind x ≡ 0 → T (done (setNo s x)) → T (done (s .inputOwner x))
 
   allowed : (done : ℕ → Bool) (c : ℕ) → c < total s → Timely done → T (not (done c))
       → ((a : ℕ) → a < total s → T (precedes s a c) → T (done a)) → Allows s done (callOf s c)
@@ -92,34 +96,41 @@ module _ (s : Shape) (ok : Wired s) where
       go : View s c → Allows s done (callOf s c)
       go (at-step u h e) =
           rw (e, is-step s u h) (
-            (λ x hx o k. not-T (done (setNo s x)) (λ d. clash (done c) (rw (e, ← o) (tm x hx k d)) nd)),
+            (λ x hx o k. not-T (done (setNo s x))
+                (λ d. clash (done c) (rw (e, ← o) (tm x hx k d)) nd)),
             (λ x hx o k. pre (setNo s x) (omega arith) (rw (e, ← o) (set-step-holds s ok x hx k))),
           )
       go (at-get y h e) =
           rw (e, is-get s y h) (
-            pre (s .outputOwner y) (omega (arith, ok .output-owned y h)) (rw e (step-get-holds s ok y h)),
-            (λ k hk o. pre (setNo s (s .feedInput k)) (omega (arith, ok .feed-input k hk)) (fed k hk (e ∙ ap (getNo s) (sym o)))),
+            pre (s .outputOwner y) (omega (arith, ok .output-owned y h))
+                (rw e (step-get-holds s ok y h)),
+            (λ k hk o. pre (setNo s (s .feedInput k)) (omega (arith, ok .feed-input k hk))
+                (fed k hk (e ∙ ap (getNo s) (sym o)))),
           )
         where
           fed : (k : ℕ) → k < s .feeds → c ≡ getNo s (s .feedOutput k)
               → T (precedes s (setNo s (s .feedInput k)) c)
           fed k hk q =
               rw q
-              (set-get-holds s ok (s .feedInput k) (s .feedOutput k) (ok .feed-input k hk) (ok .feed-output k hk)
+              (set-get-holds s ok (s .feedInput k) (s .feedOutput k) (ok .feed-input k hk)
+              (ok .feed-output k hk)
               (found-feeds s k hk))
       go (at-set x h e) =
           rw (e, is-set s x h)
-          (pre (getNo s (s .source x)) (omega (arith, ok .sourced x h)) (rw e (get-set-holds s ok x h)))
+          (pre (getNo s (s .source x)) (omega (arith, ok .sourced x h))
+          (rw e (get-set-holds s ok x h)))
 
   timely-add : (done : ℕ → Bool) (c : ℕ) → Timely done
       → ((a : ℕ) → a < total s → T (precedes s a c) → T (done a)) → Timely (add c done)
   timely-add done c tm pre x h k t =
       add-more c done (s .inputOwner x) (elim (add-cases c done (setNo s x) t) [
-        | inl e ↦ pre (s .inputOwner x) (omega (arith, ok .input-owned x h)) (rw (← e) (step-set-holds s ok x h k))
+        | inl e ↦ pre (s .inputOwner x) (omega (arith, ok .input-owned x h))
+            (rw (← e) (step-set-holds s ok x h k))
         | inr z ↦ tm x h k z
       ])
 
-  follows→passes : (done : ℕ → Bool) (l : List ℕ) → Timely done → Follows (total s) (precedes s) done l
+  follows→passes : (done : ℕ → Bool) (l : List ℕ) → Timely done
+      → Follows (total s) (precedes s) done l
       → Passes s done l
   follows→passes done [] tm f = record { meets = λ i h. absurd (omega arith); whole = f }
   follows→passes done (c ∷ l) tm f =

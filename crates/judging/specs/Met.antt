@@ -16,7 +16,8 @@ use Rattle.calls.specs.Number.{callOf, getNo, setNo}
 use Rattle.calls.specs.Numbers.{is-none}
 use Rattle.calls.specs.Precedence.{hasKind}
 use Rattle.calls.specs.Neighbours.{kind-found, found-kind}
-use Rattle.judging.specs.Conditions.{early, unset, unstepped, unfed, ungot, refusalOf, refusalAt}
+use Rattle.judging.specs.Conditions.{early, unset, unstepped, unfed}
+use Rattle.judging.specs.Conditions.{ungot, refusalOf, refusalAt}
 use Rattle.judging.specs.Passes.{Allows, Meets}
 
 -- ---- a fault that is not there
@@ -46,14 +47,16 @@ is-not false t = t
 module _ (s : Shape) (done : ℕ → Bool) where
   -- ---- each fault against the condition that it breaks
 
-  early-no : (u : ℕ) → early s done u ≡ false → (x : ℕ) → x < s .inputs → s .inputOwner x ≡ u → s .kind x ≡ 0
+  early-no : (u : ℕ) → early s done u ≡ false → (x : ℕ) → x < s .inputs → s .inputOwner x ≡ u
+      → s .kind x ≡ 0
       → T (not (done (setNo s x)))
   unfolding early
   early-no u e x h o k =
       second (hasKind s 0 x u) (done (setNo s x)) (found-kind s 0 x u k o)
       (none-of (λ x. hasKind s 0 x u && done (setNo s x)) (s .inputs) e x h)
 
-  unset-no : (u : ℕ) → unset s done u ≡ false → (x : ℕ) → x < s .inputs → s .inputOwner x ≡ u → s .kind x ≡ 1
+  unset-no : (u : ℕ) → unset s done u ≡ false → (x : ℕ) → x < s .inputs → s .inputOwner x ≡ u
+      → s .kind x ≡ 1
       → T (done (setNo s x))
   unfolding unset
   unset-no u e x h o k =
@@ -80,8 +83,10 @@ module _ (s : Shape) (done : ℕ → Bool) where
   unfolding unfed
   unfed-no y e k h o =
       is-set (done (setNo s (s .feedInput k)))
-      (second (eqb (s .feedOutput k) y) (not (done (setNo s (s .feedInput k)))) (eq-true (s .feedOutput k) y o)
-      (none-of (λ k. eqb (s .feedOutput k) y && not (done (setNo s (s .feedInput k)))) (s .feeds) e k h))
+      (second (eqb (s .feedOutput k) y) (not (done (setNo s (s .feedInput k))))
+      (eq-true (s .feedOutput k) y o)
+      (none-of (λ k. eqb (s .feedOutput k) y && not (done (setNo s (s .feedInput k))))
+      (s .feeds) e k h))
 
   no-unfed : (y : ℕ) → Allows s done (Get y) → unfed s done y ≡ false
   unfolding unfed
@@ -96,7 +101,8 @@ module _ (s : Shape) (done : ℕ → Bool) where
 
   -- ---- the number of a call is 0 exactly where its conditions hold
 
-  refusal-meets : (k : Call) (again : Bool) → refusalOf s done k again ≡ 0 → (again ≡ false) × Allows s done k
+  refusal-meets : (k : Call) (again : Bool) → refusalOf s done k again ≡ 0
+      → (again ≡ false) × Allows s done k
   unfolding refusalOf unstepped ungot
   refusal-meets (Step u) again e =
       let (a, e₁) = refuse-0 _ _ _ (omega arith) e in
@@ -114,12 +120,14 @@ module _ (s : Shape) (done : ℕ → Bool) where
       (a, undone-no (done (getNo s (s .source x))) b)
   refusal-meets NoCall again e = absurd (omega arith)
 
-  meets-refusal : (k : Call) (again : Bool) → again ≡ false → Allows s done k → refusalOf s done k again ≡ 0
+  meets-refusal : (k : Call) (again : Bool) → again ≡ false → Allows s done k
+      → refusalOf s done k again ≡ 0
   unfolding refusalOf unstepped ungot
   meets-refusal (Step u) again a al =
       refuse-on _ _ _ a ∙ refuse-on _ _ _ (no-early u al) ∙ refuse-on _ _ _ (no-unset u al)
   meets-refusal (Get y) again a al =
-      refuse-on _ _ _ a ∙ refuse-on _ _ _ (ap not (is-true (done (s .outputOwner y)) (al .0))) ∙ refuse-on _ _ _ (no-unfed y al)
+      refuse-on _ _ _ a ∙ refuse-on _ _ _ (ap not (is-true (done (s .outputOwner y)) (al .0)))
+      ∙ refuse-on _ _ _ (no-unfed y al)
   meets-refusal (Set x) again a al =
       refuse-on _ _ _ a ∙ refuse-on _ _ _ (ap not (is-true (done (getNo s (s .source x))) al))
   meets-refusal NoCall again a al = absurd al

@@ -35,7 +35,7 @@ module _ (s : Shape) where
   abbrev pub Meets : (ℕ → Bool) → ℕ → Type 0
   Meets done c = T (not (done c)) × Allows done (callOf s c)
 
-  -- from what is done on, each call meets its conditions at its place, and all N calls are done in the end;
+  -- from what is done on, each call meets its conditions at its place; all N are done at the end;
   -- an order passes from `none`, and then that means that N calls were taken
   pub record Passes (done : ℕ → Bool) (l : List ℕ) : Type 0 where
     pub meets : (i : ℕ) → i < length l → Meets (after done (take i l)) (getD l i 0)

@@ -14,10 +14,11 @@ use Rattle.judging.specs.Conditions.{refusalAt}
 use Rattle.judging.specs.Passes.{after, Meets}
 use Rattle.judging.specs.Verdict.{answer, verdictFrom}
 use Rattle.judging.specs.Met.{meets-iff, meets-call}
-use Rattle.judging.specs.Judged.{MeetsAll, one-more, verdict-end, verdict-short, verdict-on, verdict-off}
+use Rattle.judging.specs.Judged.{MeetsAll, one-more, verdict-end}
+use Rattle.judging.specs.Judged.{verdict-short, verdict-on, verdict-off}
 
 module _ (s : Shape) where
-  -- what an answer tells of an order: a pass, or the first call whose conditions fail, or the end before N calls
+  -- what an answer tells of an order: a pass, the first call whose conditions fail, or an early end
   pub data Tells (done : ℕ → Bool) (l : List ℕ) (k : ℕ) (a : Answer) : Type 0 where
     -- each call meets its conditions and N calls were taken
     passed : MeetsAll s done l (length l) → k + length l ≡ total s → a ≡ answer 0 (k + length l)
@@ -25,7 +26,7 @@ module _ (s : Shape) where
     -- each call meets its conditions and fewer than N calls were taken
     ended : MeetsAll s done l (length l) → k + length l < total s → a ≡ answer 18 (k + length l)
         → Tells done l k a
-    -- all before place i meet their conditions, that at i does not and has this number; N calls at most were taken
+    -- all before place i meet their conditions, that at i does not: its number; N taken at most
     refused : (i : ℕ) → i < length l → k + i ≤ total s → MeetsAll s done l i
         → (Meets s (after done (take i l)) (getD l i 0) → ⊥)
         → a ≡ answer (refusalAt s (after done (take i l)) (getD l i 0)) (k + i) → Tells done l k a
@@ -58,7 +59,8 @@ module _ (s : Shape) where
         tells-on done c l k (verdictFrom s done (c ∷ l) k) m
         (rw (verdict-on s done c l k z) (tells (add c done) l (suc k) (omega arith))))
     | no z ↦
-        refused 0 (omega arith) (omega (arith, count-le done (total s))) (λ j h. absurd (omega arith))
+        refused 0 (omega arith) (omega (arith, count-le done (total s)))
+        (λ j h. absurd (omega arith))
         (λ m. z (meets-iff s done c .1 m))
         (verdict-off s done c l k z ∙ ap (answer (refusalAt s done c)) (omega arith))
   ]

@@ -1,4 +1,4 @@
--- The verdict on a list of calls, the table first, then each call in turn: SPECIFICATION, Judging 7.
+-- The verdict on a list of calls, the table first, then each in turn: SPECIFICATION, Judging 7.
 use mathlib.Core.Bool.{Bool, cond}
 use mathlib.Core.List.{List, [], _∷_}
 use Prim.Native.Nat.{ℕ, suc}

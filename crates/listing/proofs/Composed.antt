@@ -32,7 +32,8 @@ module _ (t before after : List ℕ) (a : Told)
 
   pub list-refused : (a .number ≡ 0 → ⊥) → refusalText (a .number) (a .place) ≡ listing t
   unfolding listing
-  list-refused z = rw (number-is, place-is, ne-eqb (reading 644 t .number) 0 (λ e. z (number-is ∙ e)))
+  list-refused z =
+      rw (number-is, place-is, ne-eqb (reading 644 t .number) 0 (λ e. z (number-is ∙ e)))
 
   module _ (z : a .number ≡ 0) where
     -- the front of the packed buffer is the table that was read
@@ -47,11 +48,13 @@ module _ (t before after : List ℕ) (a : Told)
         (table : List ℕ) → let o = ordering table 224 in
         part (fronted (o .bytes) (replicate 224 0)) 0 (o .answer .place) ≡ o .bytes
     calls-are table =
-        let o = ordering table 224 in take-at (o .bytes) _ (o .answer .place) (sym (ordering-long table 224))
+        let o = ordering table 224 in
+        take-at (o .bytes) _ (o .answer .place) (sym (ordering-long table 224))
 
     pub list-ordered :
         (table calls : List ℕ) (o : Answer) → table ≡ part after 0 (a .place) →
-        o ≡ ordering table 224 .answer → calls ≡ fronted (ordering table 224 .bytes) (replicate 224 0) →
+        o ≡ ordering table 224 .answer
+        → calls ≡ fronted (ordering table 224 .bytes) (replicate 224 0) →
         outcomeOf t (outcome (o .number) (o .place) (part calls 0 (o .place))) ≡ listing t
     unfolding listing
     list-ordered table calls o e p q =

@@ -1,4 +1,4 @@
--- A text that is read is short, and declares no more units, outputs and inputs than a table may have.
+-- A text that is read is short, and declares no more units and ports than a table may have.
 use Prim.Native.Nat.{ℕ, _-_, _≤_}
 use mathlib.Core.Path.{_≡_, refl}
 use mathlib.Core.Bool.{Bool, true, false, not, _||_, cond}
@@ -27,7 +27,8 @@ module _ (room : ℕ) (t : List ℕ) (e : reading room t .number ≡ 0) where
       later : ℕ → Reading
       later b =
           cond (not (eqb b lf)) (stopped 21 (lineOf t (length t)))
-          (cond (ltb (firstBad t) (length t)) (stopped 22 (lineOf t (firstBad t))) (lineByLine room (rows t)))
+          (cond (ltb (firstBad t) (length t)) (stopped 22 (lineOf t (firstBad t)))
+          (lineByLine room (rows t)))
 
       go : (a b : Bool) → ltb 24576 (length t) ≡ b → (r : Reading)
           → cond (a || b) (stopped 20 0) r .number ≡ 0 → length t ≤ 24576
@@ -47,7 +48,8 @@ module _ (room : ℕ) (t : List ℕ) (e : reading room t .number ≡ 0) where
 
   pub all-outputs : declared (ascii "out") 96 t ≡ linesOf (rows t) (ascii "out")
   unfolding numbered outputs
-  all-outputs = declared-all (ascii "out") 96 t (omega (arith, short)) (table .counted .outputs-most)
+  all-outputs =
+      declared-all (ascii "out") 96 t (omega (arith, short)) (table .counted .outputs-most)
 
   pub all-inputs : declared (ascii "in") 96 t ≡ linesOf (rows t) (ascii "in")
   unfolding numbered inputs

@@ -1,4 +1,4 @@
--- The example of SPECIFICATION, Lister 7, a cycle, two refusals and a listing of the greatest length, computed.
+-- SPECIFICATION, Lister 7, a cycle, two refusals and a listing of the greatest length, computed.
 use Prim.Native.Nat.{ℕ, zero, suc, _+_, _/_, _%_}
 use mathlib.Core.Path.{_≡_, refl}
 use mathlib.Core.List.{List, [], _∷_, _++_}
@@ -142,12 +142,12 @@ pub examples :
     × (listing [] ≡ ascii "refused\t20\t0\n")
     × (length (listing greatestText) ≡ 8860)
 unfolding every some leastFrom units outputs inputs feeds outputOwners inputOwners kinds sources
-    feedBytes asked checkRefuse countsIn allBelow isPair feedKnown feedAgain feedsFrom wiring refusal callIn
-    feedsTo hasKind byKind before precedes ready nextCall sort placed upto
+    feedBytes asked checkRefuse countsIn allBelow isPair feedKnown feedAgain feedsFrom wiring
+    refusal callIn feedsTo hasKind byKind before precedes ready nextCall sort placed upto
     lowestBefore walk lowestLeft met lowestOf lowestPlace shown placedOf shownOf settled
-    ordering allowed same grown parted rows word place times lineOf firstBad blank unitNamed outputNamed
-    inputNamed feedOf loose known addUnit addOutput addInput addFeed
-    joined addJoin refused refuse taken isName faulty kindOf unitLine outLine inLine feedLine joinLine
-    line stopped pairs packed ending linesFrom version lineByLine reading linesOf decimal spell
-    printed entry entries callsText refusalText outcomeText listing
+    ordering allowed same grown parted rows word place times lineOf firstBad blank unitNamed
+    outputNamed inputNamed feedOf loose known addUnit addOutput addInput addFeed joined addJoin
+    refused refuse taken isName faulty kindOf unitLine outLine inLine feedLine joinLine line stopped
+    pairs packed ending linesFrom version lineByLine reading linesOf decimal spell printed entry
+    entries callsText refusalText outcomeText listing
 examples = (refl, refl, refl, refl, refl)

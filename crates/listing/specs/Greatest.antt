@@ -55,7 +55,8 @@ module _ (t : List ℕ) (e : reading 644 t .number ≡ 0) where
       (spelled (ascii "unit") tt) (spelled (ascii "out") tt) (spelled (ascii "in") tt)
       w cs l (c .units-most) (c .outputs-most) (c .inputs-most)
 
-  outcome-most : length (outcomeText unitLines outputLines inputLines (ordering table 224)) ≤ greatest
+  outcome-most : length (outcomeText unitLines outputLines inputLines (ordering table 224))
+      ≤ greatest
   unfolding outcomeText
   outcome-most =
       let sound = lines-sound 644 t e in
@@ -66,7 +67,8 @@ module _ (t : List ℕ) (e : reading 644 t .number ≡ 0) where
             rw (eq-eqb _ 0 z) (text-most (ascii "order") _ refl (k .calls) (k .once)))
         | no z ↦
             (let (nine, long, s) = order-else table 224 sound enough z in
-            rw (ne-eqb _ 0 z, eq-eqb _ 9 nine) (text-most (ascii "cycle") _ refl (s .cycle .calls) (s .once)))
+            rw (ne-eqb _ 0 z, eq-eqb _ 9 nine)
+            (text-most (ascii "cycle") _ refl (s .cycle .calls) (s .once)))
       ]
 
   read-most : length (listing t) ≤ greatest
@@ -88,9 +90,11 @@ listing-most t =
 pub attained : (t : List ℕ) × (length (listing t) ≡ 8860)
 attained = (greatestText, examples .4)
 
--- what `list` answers where it is lent 8,860 bytes or more: 0 and the length, so that 34 never comes
-pub list-fits : (t : List ℕ) (room : ℕ) (r : Answer) → r ≡ listed (listing t) room .answer → 8860 ≤ room
+-- what `list` answers where it is lent 8,860 bytes or more: 0 and the length, and never 34
+pub list-fits : (t : List ℕ) (room : ℕ) (r : Answer) → r ≡ listed (listing t) room .answer
+    → 8860 ≤ room
     → (r .number ≡ 0) × (r .place ≡ length (listing t)) × (r .place ≤ 8860)
 unfolding listed
 list-fits t room r e h =
-    rw (e, le-ltb room (length (listing t)) (omega (arith, listing-most t))) (refl, refl, listing-most t)
+    rw (e, le-ltb room (length (listing t)) (omega (arith, listing-most t)))
+    (refl, refl, listing-most t)

@@ -23,7 +23,7 @@ use Rattle.pen.specs.Chain.{decimal-below}
 use Rattle.printing.specs.Entries.{entry, entries, callsText}
 use Rattle.printing.specs.Lengths.{entry-long, calls-long}
 
--- the heading, the digits of places 0 to 223, and besides its place 25 bytes for a step, 39 for a get or a set
+-- the heading, the digits of 0 to 223, and beside its place 25 bytes for a step, 39 for another
 abbrev pub greatest : ℕ
 greatest = 10 + 562 + 32 * 25 + 192 * 39
 
@@ -68,26 +68,33 @@ module _ (units outputs inputs : List Row) (us : (i : ℕ) → Spelled (getD uni
   callAt = callIn (length units) (length outputs) (length inputs)
 
   line-most : (k c : ℕ) (cs : List ℕ) → Once (c ∷ cs)
-      → length (entry units outputs inputs k (callAt c)) + 14 * count (among (c ∷ cs)) (length units)
+      → length (entry units outputs inputs k (callAt c))
+      + 14 * count (among (c ∷ cs)) (length units)
       ≤ length (decimal k) + 39 + 14 * count (among cs) (length units)
   line-most k c cs o = elim (decLt c (length units)) [
     | yes h ↦
         rw (call-step (length units) (length outputs) (length inputs) c h)
         (omega (arith, step-most k c, count-add (among cs) c (length units) h (first-once c cs o)))
-    | no h ↦ omega (arith, call-most k (callAt c), count-above (among cs) c (length units) (omega arith))
+    | no h ↦ omega (
+      arith,
+      call-most k (callAt c),
+      count-above (among cs) c (length units) (omega arith),
+    )
   ]
 
   entries-most : (k : ℕ) (cs : List ℕ) → Once cs → k + length cs ≤ 1000
       → length (entries units outputs inputs k cs) + 14 * count (among cs) (length units) + places k
       ≤ 39 * length cs + places (k + length cs)
   unfolding entries
-  entries-most k [] o h = rw (add-zero k) (omega (arith, count-none (among []) (length units) (λ i l. tt)))
+  entries-most k [] o h =
+      rw (add-zero k) (omega (arith, count-none (among []) (length units) (λ i l. tt)))
   entries-most k (c ∷ cs) o h =
       let e : k + suc (length cs) ≡ suc k + length cs = omega arith in
       rw e
       (omega (
         arith,
-        length-append (entry units outputs inputs k (callAt c)) (entries units outputs inputs (suc k) cs),
+        length-append (entry units outputs inputs k (callAt c))
+            (entries units outputs inputs (suc k) cs),
         line-most k c cs o,
         place-long k (omega arith),
         entries-most (suc k) cs (rest-once c cs o) (omega arith),
@@ -96,12 +103,14 @@ module _ (units outputs inputs : List Row) (us : (i : ℕ) → Spelled (getD uni
   -- under a heading whose word has 5 bytes
   pub calls-most : (w cs : List ℕ) → length w ≡ 5
       → length units ≤ 32 → length outputs ≤ 96 → length inputs ≤ 96
-      → ((i : ℕ) → i < length cs → getD cs i 0 < length units + length outputs + length inputs) → Once cs
+      → ((i : ℕ) → i < length cs → getD cs i 0 < length units + length outputs + length inputs)
+      → Once cs
       → length (callsText units outputs inputs w cs) ≤ greatest
   unfolding places
   calls-most w cs l u y x calls once =
       let ports = length outputs + length inputs in
-      let below : (i : ℕ) → i < length cs → getD cs i 0 < length units + ports = λ i h. omega (arith, calls i h) in
+      let below : (i : ℕ) → i < length cs → getD cs i 0 < length units + ports =
+      λ i h. omega (arith, calls i h) in
       let many = once-count (length units + ports) cs below once in
       let past = count-past (among cs) (length units) ports in
       let steps = count-le (among cs) (length units) in

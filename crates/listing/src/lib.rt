@@ -11,9 +11,10 @@ ghost use Rattle.search.specs.Front.{fronted};
 ghost use Rattle.printing.specs.Listed.{listed};
 ghost use Rattle.listing.specs.Listing.{listing};
 
-// Writes the order, the cycle or the refusal of a text of any bytes: 0 and its length, or 34 and nothing written.
+// Writes the order, cycle or refusal of a text of any bytes: 0 and its length, or 34 and no byte.
 pub fn list(text: &[u8], out: &mut [u8]) -> Answer
-    ensures { λ r. ⌜ r ≡ listed (listing (now (text .entry))) (length (now (out .entry))) .answer ⌝ }
+    ensures { λ r.
+        ⌜ r ≡ listed (listing (now (text .entry))) (length (now (out .entry))) .answer ⌝ }
     ensures { λ r. ⌜ now (out .exit)
         ≡ fronted (listed (listing (now (text .entry))) (length (now (out .entry))) .bytes)
         (now (out .entry)) ⌝ }

@@ -1,4 +1,4 @@
--- A number spelled from its last digit: what is left to spell goes before the digits that are there.
+-- A number spelled from its last digit: what is left to spell goes before the digits there are.
 use Prim.Native.Nat.{ℕ, suc, _+_, _-_, _/_, _%_, _^_, _≤_, _<_}
 use mathlib.Core.Path.{_≡_, refl, sym, ap, _∙_}
 use mathlib.Core.List.{List, [], _∷_}
@@ -30,10 +30,16 @@ module _ {n i m : ℕ} {s : List ℕ} (p : Spelling n i m s) where
   unfolding spell
   spelling-on h = go (tenth-below i m h (p .small))
     where
-      go : (j : ℕ) × (i ≡ suc j) × (m / 10 < 10 ^ suc j) → Spelling n (i - 1) (m / 10) ((48 + m % 10) ∷ s)
+      go : (j : ℕ) × (i ≡ suc j) × (m / 10 < 10 ^ suc j)
+          → Spelling n (i - 1) (m / 10) ((48 + m % 10) ∷ s)
       go (j, e, q) =
           let z : i - 1 ≡ j = omega arith in
-          rw z (record { all = omega (arith, p .all); small = q; left = p .left ∙ rw (le-ltb m 10 h, e) })
+          rw z (record {
+            all = omega (arith, p .all);
+            small = q;
+            left = p .left
+                ∙ rw (le-ltb m 10 h, e);
+          })
 
   pub spelling-ends : m < 10 → decimal n ≡ (48 + m) ∷ s
   unfolding spell
@@ -54,7 +60,12 @@ pub record Stored (n : ℕ) (b : List ℕ) (i m : ℕ) : Type 0 where
 
 pub stored-starts : (n : ℕ) (b : List ℕ) → length b ≡ 20 → n < 2 ^ 64 → Stored n b 19 n
 stored-starts n b l h =
-    record { room = l; within = omega arith; left = rw (drop-of-length-le b {i = 20} (omega arith)) (spelling-starts n h) }
+    record {
+      room = l;
+      within = omega arith;
+      left = rw (drop-of-length-le b {i = 20} (omega arith))
+          (spelling-starts n h);
+    }
 
 module _ {n : ℕ} {b : List ℕ} {i m : ℕ} (p : Stored n b i m) where
   pub stored-on : 10 ≤ m → Stored n (set b i (48 + m % 10)) (i - 1) (m / 10)
@@ -63,7 +74,8 @@ module _ {n : ℕ} {b : List ℕ} {i m : ℕ} (p : Stored n b i m) where
       record {
         room = length-set b i (48 + m % 10) ∙ p .room;
         within = omega (arith, p .within);
-        left = rw (e, push b i (48 + m % 10) (omega (arith, p .room, p .within))) (spelling-on (p .left) h);
+        left = rw (e, push b i (48 + m % 10) (omega (arith, p .room, p .within)))
+            (spelling-on (p .left) h);
       }
 
   pub stored-ends : m < 10 → take (20 - i) (drop i (set b i (48 + m))) ≡ decimal n
@@ -88,7 +100,12 @@ module _ {n count m : ℕ} (p : Counted n count m) where
   pub counted-on : 10 ≤ m → Counted n (count + 1) (m / 10)
   counted-on h =
       let e : 20 - (count + 1) ≡ 20 - count - 1 = omega arith in
-      record { digits = (48 + m % 10) ∷ p .digits; size = omega (arith, p .size); left = rw e (spelling-on (p .left) h) }
+      record {
+        digits = (48 + m % 10)
+            ∷ p .digits;
+        size = omega (arith, p .size);
+        left = rw e (spelling-on (p .left) h);
+      }
 
   pub counted-ends : m < 10 → count ≡ length (decimal n)
   counted-ends h = rw (spelling-ends (p .left) h) (p .size)

@@ -13,13 +13,15 @@ use native.Mathlib.Decide.{decLe}
 use Rattle.pen.specs.Put.{over, fits, wrote, behind, Put}
 use Rattle.pen.specs.Chain.{Wrote, wrote-none, wrote-then}
 
-pub put-whole : {out : List ℕ} {at : ℕ} {s after : List ℕ} {k : ℕ} → Wrote out at s after k → Put out at s after k
+pub put-whole : {out : List ℕ} {at : ℕ} {s after : List ℕ} {k : ℕ} → Wrote out at s after k
+    → Put out at s after k
 unfolding wrote behind fits
 put-whole {out} {at} {s} w =
     let e : leb (at + length s) (length out) ≡ true = le-leb _ _ (w .room) in
     record { bytes = rw e (w .bytes); place = rw e (w .place) }
 
-pub wrote-one : (out : List ℕ) (at b : ℕ) → at < length out → Wrote out at (b ∷ []) (set out at b) (at + 1)
+pub wrote-one : (out : List ℕ) (at b : ℕ) → at < length out
+    → Wrote out at (b ∷ []) (set out at b) (at + 1)
 unfolding over
 wrote-one out at b h =
     record { room = omega arith; bytes = rw (add-one at) (set-split out at b h); place = refl }
@@ -30,15 +32,23 @@ pub record Putting (out₀ : List ℕ) (at : ℕ) (s out : List ℕ) (i : ℕ) :
   pub done : Wrote out₀ at (take i s) out (at + i)
   pub long : length out ≡ length out₀
 
-pub putting-starts : (out : List ℕ) (at : ℕ) (s : List ℕ) → at + length s ≤ length out → Putting out at s out 0
+pub putting-starts : (out : List ℕ) (at : ℕ) (s : List ℕ) → at + length s ≤ length out
+    → Putting out at s out 0
 putting-starts out at s h =
-    record { passed = omega arith; room = h; done = rw native.Mathlib.Nat.add-zero (wrote-none out at (omega arith)); long = refl }
+    record {
+      passed = omega arith;
+      room = h;
+      done = rw native.Mathlib.Nat.add-zero
+          (wrote-none out at (omega arith));
+      long = refl;
+    }
 
 module _ {out₀ : List ℕ} {at : ℕ} {s out : List ℕ} {i : ℕ} (p : Putting out₀ at s out i) where
   pub putting-on : i < length s → Putting out₀ at s (set out (at + i) (getD s i 0)) (i + 1)
   putting-on h =
       let one = wrote-one out (at + i) (getD s i 0) (omega (arith, p .room, p .long)) in
-      let e : take i s ++ (getD s i 0 ∷ []) ≡ take (i + 1) s = rw (add-one i) (sym (take-suc s i 0 h)) in
+      let e : take i s ++ (getD s i 0 ∷ []) ≡ take (i + 1) s =
+      rw (add-one i) (sym (take-suc s i 0 h)) in
       record {
         passed = omega arith;
         room = p .room;

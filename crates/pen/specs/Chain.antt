@@ -27,7 +27,8 @@ put-fits {out} {at} {s} p h =
     let e : leb (at + length s) (length out) ≡ true = le-leb _ _ h in
     record { room = h; bytes = rw e at (p .bytes); place = rw e at (p .place) }
 
-over-long : (out : List ℕ) (at : ℕ) (s : List ℕ) → at + length s ≤ length out → length (over out at s) ≡ length out
+over-long : (out : List ℕ) (at : ℕ) (s : List ℕ) → at + length s ≤ length out
+    → length (over out at s) ≡ length out
 unfolding over
 over-long out at s h =
     omega (
@@ -39,14 +40,16 @@ over-long out at s h =
     )
 
 -- what does not fit leaves the buffer, and answers the place given
-pub put-nothing : (out : List ℕ) (at : ℕ) (s : List ℕ) → length out < at + length s → Put out at s out at
+pub put-nothing : (out : List ℕ) (at : ℕ) (s : List ℕ) → length out < at + length s
+    → Put out at s out at
 unfolding wrote behind fits
 put-nothing out at s h =
     let e : leb (at + length s) (length out) ≡ false = lt-leb _ _ h in
     record { bytes = rw e; place = rw e }
 
 -- the buffer keeps its length, whether or not the bytes fit
-pub put-long : {out : List ℕ} {at : ℕ} {s after : List ℕ} {k : ℕ} → Put out at s after k → length after ≡ length out
+pub put-long : {out : List ℕ} {at : ℕ} {s after : List ℕ} {k : ℕ} → Put out at s after k
+    → length after ≡ length out
 put-long {out} {at} {s} {after} p = go (decLe (at + length s) (length out))
   where
     go : Dec (at + length s ≤ length out) → length after ≡ length out
@@ -69,7 +72,8 @@ over-more out at s r h =
     let d : drop (at + length s) (front ++ (s ++ tail)) ≡ tail =
     ap (drop (at + length s)) e ∙ drop-at (front ++ s) tail (at + length s) l in
     let n : at + length s + length r ≡ at + length (s ++ r) = omega (arith, length-append s r) in
-    let f : drop (at + length s + length r) (front ++ (s ++ tail)) ≡ drop (at + length (s ++ r)) out =
+    let f : drop (at + length s + length r) (front ++ (s ++ tail))
+    ≡ drop (at + length (s ++ r)) out =
     sym (drop-drop (length r) (at + length s) (front ++ (s ++ tail))) ∙ ap (drop (length r)) d
     ∙ drop-drop (length r) (at + length s) out ∙ ap (λ k. drop k out) n in
     rw (t, f) (append-assoc front s (r ++ drop (at + length (s ++ r)) out)
@@ -78,7 +82,11 @@ over-more out at s r h =
 pub wrote-none : (out : List ℕ) (at : ℕ) → at ≤ length out → Wrote out at [] out at
 unfolding over
 wrote-none out at h =
-    record { room = omega arith; bytes = sym (rw (add-zero at) (take-append-drop at out)); place = omega arith }
+    record {
+      room = omega arith;
+      bytes = sym (rw (add-zero at) (take-append-drop at out));
+      place = omega arith;
+    }
 
 module _ {out : List ℕ} {at : ℕ} {s after : List ℕ} {k : ℕ} (w : Wrote out at s after k) where
   pub wrote-long : length after ≡ length out
@@ -90,18 +98,22 @@ module _ {out : List ℕ} {at : ℕ} {s after : List ℕ} {k : ℕ} (w : Wrote o
       let m = wrote-long in
       record {
         room = omega (arith, v .room, w .place, n, m);
-        bytes = v .bytes ∙ ap (λ o. over o k r) (w .bytes) ∙ ap (λ j. over (over out at s) j r) (w .place)
+        bytes = v .bytes ∙ ap (λ o. over o k r) (w .bytes)
+            ∙ ap (λ j. over (over out at s) j r) (w .place)
             ∙ over-more out at s r (w .room);
         place = omega (arith, v .place, w .place, n);
       }
 
   -- a put behind what was written, where all of it fits
-  pub wrote-put : {r last : List ℕ} {l : ℕ} → Put after k r last l → at + length (s ++ r) ≤ length out → Wrote out at (s ++ r) last l
-  wrote-put {r} p h = wrote-then (put-fits p (omega (arith, h, w .place, length-append s r, wrote-long)))
+  pub wrote-put : {r last : List ℕ} {l : ℕ} → Put after k r last l
+      → at + length (s ++ r) ≤ length out → Wrote out at (s ++ r) last l
+  wrote-put {r} p h =
+      wrote-then (put-fits p (omega (arith, h, w .place, length-append s r, wrote-long)))
 
 -- what is written from the front on
 pub wrote-front :
-    {out s after : List ℕ} {k : ℕ} → Wrote out 0 s after k → (k ≡ length s) × (after ≡ s ++ drop (length s) out)
+    {out s after : List ℕ} {k : ℕ} → Wrote out 0 s after k
+    → (k ≡ length s) × (after ≡ s ++ drop (length s) out)
 unfolding over
 wrote-front {out} {s} w = (omega (arith, w .place), rw zero-add at (w .bytes))
 
@@ -122,9 +134,11 @@ unfolding decimal
 decimal-long n = omega (arith, spell-long 20 n [])
 
 -- the tenth of a number of more than one digit has a digit less
-pub tenth-below : (i n : ℕ) → 10 ≤ n → n < 10 ^ suc i → (j : ℕ) × (i ≡ suc j) × (n / 10 < 10 ^ suc j)
+pub tenth-below : (i n : ℕ) → 10 ≤ n → n < 10 ^ suc i
+    → (j : ℕ) × (i ≡ suc j) × (n / 10 < 10 ^ suc j)
 tenth-below zero n h g = let z : n < 10 = g in absurd (omega arith)
-tenth-below (suc j) n h g = (j, refl, div-lt-iff-lt-mul {k = 10} (omega arith) .1 (rw (pow-suc 10 (suc j)) at g))
+tenth-below (suc j) n h g =
+    (j, refl, div-lt-iff-lt-mul {k = 10} (omega arith) .1 (rw (pow-suc 10 (suc j)) at g))
 
 spell-below : (f i n : ℕ) (s : List ℕ) → n < 10 ^ suc i → length (spell f n s) ≤ suc i + length s
 unfolding spell
@@ -133,7 +147,8 @@ spell-below (suc f) i n s h = go (ltb n 10) refl (λ j. spell-below f j (n / 10)
   where
     go :
         (b : Bool) → ltb n 10 ≡ b →
-        ((j : ℕ) → n / 10 < 10 ^ suc j → length (spell f (n / 10) ((48 + n % 10) ∷ s)) ≤ suc j + suc (length s)) →
+        ((j : ℕ) → n / 10 < 10 ^ suc j
+        → length (spell f (n / 10) ((48 + n % 10) ∷ s)) ≤ suc j + suc (length s)) →
         length (cond b ((48 + n) ∷ s) (spell f (n / 10) ((48 + n % 10) ∷ s))) ≤ suc i + length s
     go true e ih = omega arith
     go false e ih = let (j, p, q) = tenth-below i n (ltb-false n 10 e) h in omega (arith, ih j q, p)

@@ -17,7 +17,7 @@ fn has_room(size: usize, at: usize, n: usize) -> bool
     at <= size - n
 }
 
-// Puts the bytes s at place at, and answers the place behind them; where they do not fit, the place given.
+// Puts the bytes s at place at, and answers the place behind them, or at if they do not fit.
 pub fn put(out: &mut [u8], at: usize, s: &[u8]) -> usize
     ensures { λ r. ⌜ Put (now (out .entry)) at (now (s .entry)) (now (out .exit)) r ⌝ }
 {

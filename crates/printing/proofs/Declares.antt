@@ -59,7 +59,8 @@ module _ (t : List ℕ) (k : ℕ) (l : Line) where
       )
 
   module _ (u p : List ℕ) (e : u ≡ word (rowAt t (l .place)) 1) where
-    pub text-step : l .kind ≡ 0 → printed (decimal k ∷ ascii "step" ∷ u ∷ ascii "-" ∷ []) ≡ textOf t k l
+    pub text-step : l .kind ≡ 0
+        → printed (decimal k ∷ ascii "step" ∷ u ∷ ascii "-" ∷ []) ≡ textOf t k l
     unfolding textOf
     text-step z = rw (e, eq-eqb (l .kind) 0 z)
 
@@ -69,9 +70,11 @@ module _ (t : List ℕ) (k : ℕ) (l : Line) where
       text-get o = rw (e, f, ne-eqb (l .kind) 0 z, eq-eqb (l .kind) 1 o)
 
       pub text-set :
-          (l .kind ≡ 1 → ⊥) → l .kind < 3 → printed (decimal k ∷ ascii "set" ∷ u ∷ p ∷ []) ≡ textOf t k l
+          (l .kind ≡ 1 → ⊥) → l .kind < 3
+          → printed (decimal k ∷ ascii "set" ∷ u ∷ p ∷ []) ≡ textOf t k l
       unfolding textOf
-      text-set o h = rw (e, f, ne-eqb (l .kind) 0 z, ne-eqb (l .kind) 1 o, eq-eqb (l .kind) 2 (omega arith))
+      text-set o h =
+          rw (e, f, ne-eqb (l .kind) 0 z, ne-eqb (l .kind) 1 o, eq-eqb (l .kind) 2 (omega arith))
 
 -- ---- the line that is found
 
@@ -93,7 +96,8 @@ module _ (t us ys xs : List ℕ) (i : Indexed t us ys xs) where
   unit-row n h = rw (i .unit-places) (declared-row (ascii "unit") 32 t n (rw (← i .unit-places) h))
 
   output-row : (n : ℕ) → n < length ys → rowAt t (getD ys n 0) ≡ getD (outputLines t) n []
-  output-row n h = rw (i .output-places) (declared-row (ascii "out") 96 t n (rw (← i .output-places) h))
+  output-row n h =
+      rw (i .output-places) (declared-row (ascii "out") 96 t n (rw (← i .output-places) h))
 
   input-row : (n : ℕ) → n < length xs → rowAt t (getD xs n 0) ≡ getD (inputLines t) n []
   input-row n h = rw (i .input-places) (declared-row (ascii "in") 96 t n (rw (← i .input-places) h))
@@ -136,9 +140,11 @@ module _ (t us ys xs : List ℕ) (i : Indexed t us ys xs) where
 
 module _ (us ys xs : List ℕ) (c n : ℕ) where
   arm : (k : Call)
-      → callIn (length us) (length ys) (length xs) c ≡ k → Within (length us) (length ys) (length xs) k
+      → callIn (length us) (length ys) (length xs) c ≡ k
+      → Within (length us) (length ys) (length xs) k
   arm k e =
-      subst (Within (length us) (length ys) (length xs)) e (call-within (length us) (length ys) (length xs) c)
+      subst (Within (length us) (length ys) (length xs)) e
+      (call-within (length us) (length ys) (length xs) c)
 
   pub step-arm : callIn (length us) (length ys) (length xs) c ≡ Step n → n < length us
   step-arm = arm (Step n)
@@ -155,10 +161,12 @@ unfolding lineAt
 line-of us ys xs c k e = ap (lineFor us ys xs) (sym e)
 
 -- where a field of the line at place a stands
-pub part-of : {t : List ℕ} {a i : ℕ} {l : Fields} → l ≡ fieldsAt t a → length t ≤ 65535 → i < 5 → Part t a i l
+pub part-of : {t : List ℕ} {a i : ℕ} {l : Fields} → l ≡ fieldsAt t a → length t ≤ 65535 → i < 5
+    → Part t a i l
 part-of {t} {a} {i} e h five = rw e (field-part t a h i five)
 
-pub word-short : (t : List ℕ) (a i : ℕ) → length t ≤ 65535 → i < 5 → length (word (rowAt t a) i) ≤ 65535
+pub word-short : (t : List ℕ) (a i : ℕ) → length t ≤ 65535 → i < 5
+    → length (word (rowAt t a) i) ≤ 65535
 unfolding stretch
 word-short t a i h five =
     let p = field-part t a h i five in
@@ -173,7 +181,8 @@ pub nothing-put :
     3 ≤ l .kind → at + length (textOf t k l) ≤ length o → Wrote o at (textOf t k l) o at
 nothing-put t k l o at h room = rw (text-none t k l h) (wrote-none o at (omega arith))
 
-pub same-put : {o s r after : List ℕ} {at k : ℕ} → Wrote o at s after k → s ≡ r → Wrote o at r after k
+pub same-put : {o s r after : List ℕ} {at k : ℕ} → Wrote o at s after k → s ≡ r
+    → Wrote o at r after k
 same-put w e = rw (← e) w
 
 pub same-room : {s r : List ℕ} (at n : ℕ) → s ≡ r → at + length r ≤ n → at + length s ≤ n

@@ -35,7 +35,8 @@ fitting-starts t cs room = record { passed = omega arith; rest = refl }
 
 module _ {t cs : List ℕ} {room left i : ℕ} (g : Fitting t cs room left i) where
   module _ (n : ℕ) (h : i < length cs) (e : n ≡ length (entryOf t i (getD cs i 0))) where
-    next : room + (n + length (entriesOf t (i + 1) (drop (i + 1) cs))) ≡ left + length (entriesOf t 0 cs)
+    next : room + (n + length (entriesOf t (i + 1) (drop (i + 1) cs))) ≡ left
+        + length (entriesOf t 0 cs)
     next =
         omega (
           arith,
@@ -53,7 +54,8 @@ module _ {t cs : List ℕ} {room left i : ℕ} (g : Fitting t cs room left i) wh
 
   pub fitting-ends : length cs ≤ i → true ≡ leb (length (entriesOf t 0 cs)) room
   fitting-ends h =
-      sym (le-leb (length (entriesOf t 0 cs)) room (omega (arith, g .rest, ap length (no-entry t cs i h))))
+      sym (le-leb (length (entriesOf t 0 cs)) room
+      (omega (arith, g .rest, ap length (no-entry t cs i h))))
 
 -- ---- the lines put
 
@@ -64,22 +66,26 @@ pub record Writing (t cs out₀ : List ℕ) (at : ℕ) (out : List ℕ) (end i :
   pub rest : done ++ entriesOf t i (drop i cs) ≡ entriesOf t 0 cs
 
 pub writing-starts :
-    (t cs out : List ℕ) (at : ℕ) → at + length (entriesOf t 0 cs) ≤ length out → Writing t cs out at out at 0
+    (t cs out : List ℕ) (at : ℕ) → at + length (entriesOf t 0 cs) ≤ length out
+    → Writing t cs out at out at 0
 writing-starts t cs out at h =
     record { passed = omega arith; done = []; wrote = wrote-none out at (omega arith); rest = refl }
 
-module _ {t cs out₀ : List ℕ} {at : ℕ} {out : List ℕ} {end i : ℕ} (g : Writing t cs out₀ at out end i) where
+module _ {t cs out₀ : List ℕ} {at : ℕ} {out : List ℕ} {end i : ℕ}
+    (g : Writing t cs out₀ at out end i) where
   pub writing-long : length out ≡ length out₀
   writing-long = wrote-long (g .wrote)
 
   module _ (h : i < length cs) where
-    more : (g .done ++ entryOf t i (getD cs i 0)) ++ entriesOf t (i + 1) (drop (i + 1) cs) ≡ entriesOf t 0 cs
+    more : (g .done ++ entryOf t i (getD cs i 0)) ++ entriesOf t (i + 1) (drop (i + 1) cs)
+        ≡ entriesOf t 0 cs
     more =
         append-assoc (g .done) (entryOf t i (getD cs i 0)) (entriesOf t (i + 1) (drop (i + 1) cs))
         ∙ ap (λ s. g .done ++ s) (sym (one-entry t cs i h)) ∙ g .rest
 
     pub writing-room :
-        at + length (entriesOf t 0 cs) ≤ length out₀ → end + length (entryOf t i (getD cs i 0)) ≤ length out
+        at + length (entriesOf t 0 cs) ≤ length out₀
+        → end + length (entryOf t i (getD cs i 0)) ≤ length out
     writing-room room =
         omega (
           arith,
@@ -87,7 +93,8 @@ module _ {t cs out₀ : List ℕ} {at : ℕ} {out : List ℕ} {end i : ℕ} (g :
           writing-long,
           g .wrote .place,
           ap length more,
-          length-append (g .done ++ entryOf t i (getD cs i 0)) (entriesOf t (i + 1) (drop (i + 1) cs)),
+          length-append (g .done ++ entryOf t i (getD cs i 0))
+              (entriesOf t (i + 1) (drop (i + 1) cs)),
           length-append (g .done) (entryOf t i (getD cs i 0)),
         )
 

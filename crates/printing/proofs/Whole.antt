@@ -19,7 +19,8 @@ use Rattle.pen.specs.Decimal.{decimal}
 use Rattle.pen.specs.Chain.{Wrote, wrote-then, wrote-long, wrote-front}
 use Rattle.printing.specs.Printed.{printed}
 use Rattle.printing.specs.Entries.{callsText, refusalText, outcomeText}
-use Rattle.printing.specs.Indexed.{unitLines, outputLines, inputLines, entriesOf, callsOf, outcomeOf}
+use Rattle.printing.specs.Indexed.{unitLines, outputLines, inputLines}
+use Rattle.printing.specs.Indexed.{entriesOf, callsOf, outcomeOf}
 use Rattle.printing.specs.Lengths.{calls-long}
 use Rattle.printing.specs.Listed.{listed}
 use Rattle.printing.proofs.Fielded.{ended-long}
@@ -37,7 +38,8 @@ unfolding listed
 listed-not s o h = (rw (lt-ltb (length o) (length s) h), rw (lt-ltb (length o) (length s) h))
 
 pub listed-all :
-    {s o after : List ℕ} {k : ℕ} → Wrote o 0 s after k → Listed s o after (record { number = 0; place = k })
+    {s o after : List ℕ} {k : ℕ} → Wrote o 0 s after k
+    → Listed s o after (record { number = 0; place = k })
 unfolding listed
 listed-all {s} {o} {after} {k} w =
     let f = wrote-front w in
@@ -51,7 +53,8 @@ unfolding printed
 two-fields w d = append-assoc w (tab ∷ []) (d ++ (lf ∷ []))
 
 module _ (t w cs : List ℕ) where
-  long : length (callsOf t w cs) ≡ length w + length (decimal (length cs)) + 2 + length (entriesOf t 0 cs)
+  long : length (callsOf t w cs) ≡ length w + length (decimal (length cs)) + 2
+      + length (entriesOf t 0 cs)
   long = calls-long (unitLines t) (outputLines t) (inputLines t) w cs
 
   module _ (o : List ℕ) where
@@ -66,7 +69,12 @@ module _ (t w cs : List ℕ) where
           Listed (callsOf t w cs) o o short
       calls-not-2 f =
           listed-not _ o
-          (omega (arith, long, leb-false (length (entriesOf t 0 cs)) (length o - (length w + n + 2)) f))
+          (omega (
+            arith,
+            long,
+            leb-false (length (entriesOf t 0 cs))
+                (length o - (length w + n + 2)) f,
+          ))
 
       module _ (f : leb (length (entriesOf t 0 cs)) (length o - (length w + n + 2)) ≡ true) where
         fits : length w + n + 2 + length (entriesOf t 0 cs) ≤ length o
@@ -79,7 +87,8 @@ module _ (t w cs : List ℕ) where
           pub room-b : k₁ + (length (decimal (length cs)) + 1) ≤ length o₁
           room-b = omega (arith, fits, w₁ .place, wrote-long w₁, ended-long w tab)
 
-          module _ {o₂ : List ℕ} {k₂ : ℕ} (w₂ : Wrote o₁ k₁ (decimal (length cs) ++ (lf ∷ [])) o₂ k₂) where
+          module _ {o₂ : List ℕ} {k₂ : ℕ}
+              (w₂ : Wrote o₁ k₁ (decimal (length cs) ++ (lf ∷ [])) o₂ k₂) where
             pub room-c : k₂ + length (entriesOf t 0 cs) ≤ length o₂
             room-c =
                 omega (
@@ -98,7 +107,8 @@ module _ (t w cs : List ℕ) where
                 Listed (callsOf t w cs) o o₃ (record { number = 0; place = k₃ })
             unfolding callsText
             calls-all w₃ =
-                listed-all (rw (two-fields w (decimal (length cs))) at (wrote-then (wrote-then w₁ w₂) w₃))
+                listed-all (rw (two-fields w (decimal (length cs))) at
+                (wrote-then (wrote-then w₁ w₂) w₃))
 
 -- ---- a refusal
 
@@ -111,7 +121,8 @@ module _ (n k : ℕ) where
 
   module _ {o₁ o₂ o₃ : List ℕ} {o : List ℕ} {k₁ k₂ k₃ : ℕ} where
     pub refusal-all :
-        Wrote o 0 (ascii "refused" ++ (tab ∷ [])) o₁ k₁ → Wrote o₁ k₁ (decimal n ++ (tab ∷ [])) o₂ k₂ →
+        Wrote o 0 (ascii "refused" ++ (tab ∷ [])) o₁ k₁
+        → Wrote o₁ k₁ (decimal n ++ (tab ∷ [])) o₂ k₂ →
         Wrote o₂ k₂ (decimal k ++ (lf ∷ [])) o₃ k₃ →
         Listed (refusalText n k) o o₃ (record { number = 0; place = k₃ })
     refusal-all w₁ w₂ w₃ = listed-all (rw three-fields at (wrote-then (wrote-then w₁ w₂) w₃))
@@ -133,7 +144,8 @@ noted-fits {w} {t} {places} {after} {n} g =
 
 module _ (t : List ℕ) (n k : ℕ) (calls cs : List ℕ) where
   pub outcome-order :
-      cs ≡ part calls 0 k → n ≡ 0 → callsOf t (ascii "order") cs ≡ outcomeOf t (outcome n k (part calls 0 k))
+      cs ≡ part calls 0 k → n ≡ 0
+      → callsOf t (ascii "order") cs ≡ outcomeOf t (outcome n k (part calls 0 k))
   unfolding outcomeText
   outcome-order e z = rw (e, eq-eqb n 0 z)
 

@@ -1,4 +1,4 @@
--- What is printed of the example of SPECIFICATION, Lister 7, as an order and as a cycle, and of refusals, computed.
+-- What is printed of SPECIFICATION, Lister 7, as order and as cycle, and of refusals, computed.
 use Prim.Native.Nat.{ℕ}
 use mathlib.Core.Path.{_≡_, refl}
 use mathlib.Core.List.{List, [], _∷_, _++_}

@@ -19,7 +19,7 @@ refusalText n k = printed (ascii "refused" ∷ decimal n ∷ decimal k ∷ [])
 
 -- with the lines that declare units, outputs and inputs: field 1 names the unit, field 2 the port
 module _ (units outputs inputs : List (List (List ℕ))) where
-  -- a call by its place, its word, its unit and its port, which a step has not; nothing for what is no call
+  -- a call by place, word, unit and port, which a step has not; nothing for what is no call
   unfoldable pub entry : ℕ → Call → List ℕ
   entry k (Step u) = let f = getD units u [] in printed (decimal k ∷ ascii "step" ∷ word f 1 ∷ ascii "-" ∷ [])
   entry k (Get y) = let f = getD outputs y [] in printed (decimal k ∷ ascii "get" ∷ word f 1 ∷ word f 2 ∷ [])
@@ -35,7 +35,7 @@ module _ (units outputs inputs : List (List (List ℕ))) where
   unfoldable pub callsText : List ℕ → List ℕ → List ℕ
   callsText w cs = printed (w ∷ decimal (length cs) ∷ []) ++ entries 0 cs
 
-  -- what an ordering gives: 0 an order, 9 a cycle; the rest does not arise for a table that was read
+  -- what an ordering gives: 0 an order, 9 a cycle; no other comes of a table that was read
   unfoldable pub outcomeText : Outcome → List ℕ
   outcomeText o =
       cond (eqb (o .answer .number) 0) (callsText (ascii "order") (o .bytes))

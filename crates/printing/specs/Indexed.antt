@@ -1,4 +1,4 @@
--- The lines that declare units, outputs and inputs, as many as a table may have, and where they begin.
+-- The lines that declare units, outputs and inputs, as many as a table has, and where they begin.
 use Prim.Native.Nat.{ℕ}
 use mathlib.Core.Path.{_≡_}
 use mathlib.Core.List.{List}

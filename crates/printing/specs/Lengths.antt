@@ -21,6 +21,7 @@ pub calls-long :
 unfolding callsText printed
 calls-long units outputs inputs w cs = simp length-append (omega arith)
 
-pub refusal-long : (n k : ℕ) → length (refusalText n k) ≡ length (decimal n) + length (decimal k) + 10
+pub refusal-long : (n k : ℕ)
+    → length (refusalText n k) ≡ length (decimal n) + length (decimal k) + 10
 unfolding refusalText printed
 refusal-long n k = simp length-append (omega arith)

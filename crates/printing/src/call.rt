@@ -19,7 +19,8 @@ pub struct Line {
 
 // The line that declares call c, by where the lines of units, outputs and inputs begin.
 pub fn line_at(units: &[u16], outputs: &[u16], inputs: &[u16], c: usize) -> Line
-    ensures { λ r. ⌜ r ≡ lineAt (now (units .entry)) (now (outputs .entry)) (now (inputs .entry)) c ⌝ }
+    ensures { λ r.
+        ⌜ r ≡ lineAt (now (units .entry)) (now (outputs .entry)) (now (inputs .entry)) c ⌝ }
 {
     let call = call_in(units.len(), outputs.len(), inputs.len(), c);
     match call {
@@ -74,7 +75,8 @@ pub fn text_length(text: &[u8], line: Line, k: usize) -> usize
 pub fn put_text(text: &[u8], line: Line, k: usize, out: &mut [u8], at: usize) -> usize
     requires { ⌜ (line .kind < 3 → length (now text) ≤ 65535) ⌝ }
     requires { ⌜ at + length (textOf (now text) k line) ≤ length (now out) ⌝ }
-    ensures { λ r. ⌜ Wrote (now (out .entry)) at (textOf (now (text .entry)) k line) (now (out .exit)) r ⌝ }
+    ensures { λ r.
+        ⌜ Wrote (now (out .entry)) at (textOf (now (text .entry)) k line) (now (out .exit)) r ⌝ }
 {
     if 3 <= line.kind {
         return at;

@@ -19,7 +19,8 @@ pub fn entries_fit(
     room: usize,
 ) -> bool
     requires { ⌜ Indexed (now text) (now units) (now outputs) (now inputs) ⌝ }
-    ensures { λ r. ⌜ r ≡ leb (length (entriesOf (now (text .entry)) 0 (now (calls .entry)))) room ⌝ }
+    ensures { λ r.
+        ⌜ r ≡ leb (length (entriesOf (now (text .entry)) 0 (now (calls .entry)))) room ⌝ }
 {
     let mut left = room;
     let mut i = 0;
@@ -47,7 +48,8 @@ pub fn put_entries(
 ) -> usize
     requires { ⌜ Indexed (now text) (now units) (now outputs) (now inputs) ⌝ }
     requires { ⌜ at + length (entriesOf (now text) 0 (now calls)) ≤ length (now out) ⌝ }
-    ensures { λ r. ⌜ Wrote (now (out .entry)) at (entriesOf (now (text .entry)) 0 (now (calls .entry)))
+    ensures { λ r.
+        ⌜ Wrote (now (out .entry)) at (entriesOf (now (text .entry)) 0 (now (calls .entry)))
         (now (out .exit)) r ⌝ }
 {
     let mut end = at;

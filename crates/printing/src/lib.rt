@@ -90,7 +90,8 @@ pub fn put_calls(text: &[u8], heading: &[u8], calls: &[u8], out: &mut [u8]) -> A
 pub fn put_refusal(number: u8, line: usize, out: &mut [u8]) -> Answer
     ensures { λ r. ⌜ r ≡ listed (refusalText number line) (length (now (out .entry))) .answer ⌝ }
     ensures { λ r. ⌜ now (out .exit)
-        ≡ fronted (listed (refusalText number line) (length (now (out .entry))) .bytes) (now (out .entry)) ⌝ }
+        ≡ fronted (listed (refusalText number line) (length (now (out .entry))) .bytes)
+        (now (out .entry)) ⌝ }
 {
     let n = number as usize;
     if out.len() < digit_count(n) + digit_count(line) + 10 {
@@ -108,7 +109,7 @@ pub fn put_refusal(number: u8, line: usize, out: &mut [u8]) -> Answer
     }
 }
 
-// Writes what an ordering answered: an order, a cycle, or a refusal; its calls stand at the buffer's front.
+// Writes what an ordering answered: an order, a cycle or a refusal; its calls stand at the front.
 pub fn put_outcome(text: &[u8], answer: Answer, buffer: &[u8], out: &mut [u8]) -> Answer
     ensures { λ r. ⌜ r
         ≡ listed (outcomeOf (now (text .entry))

@@ -14,7 +14,8 @@ ghost use Rattle.printing.specs.Printed.{printed};
 // A field and the byte that ends it.
 pub fn put_field(out: &mut [u8], at: usize, s: &[u8], end: u8) -> usize
     requires { ⌜ at + (length (now s) + 1) ≤ length (now out) ⌝ }
-    ensures { λ r. ⌜ Wrote (now (out .entry)) at (now (s .entry) ++ (end ∷ [])) (now (out .exit)) r ⌝ }
+    ensures { λ r.
+        ⌜ Wrote (now (out .entry)) at (now (s .entry) ++ (end ∷ [])) (now (out .exit)) r ⌝ }
 {
     let k = put(out, at, s);
     put_byte(out, k, end)
@@ -38,8 +39,12 @@ pub fn put_entry(
     unit: &[u8],
     port: &[u8],
 ) -> usize
-    requires { ⌜ at + length (printed (decimal k ∷ now word ∷ now unit ∷ now port ∷ [])) ≤ length (now out) ⌝ }
-    ensures { λ r. ⌜ Wrote (now (out .entry)) at (printed (decimal k ∷ now (word .entry) ∷ now (unit .entry) ∷ now (port .entry) ∷ [])) (now (out .exit)) r ⌝ }
+    requires { ⌜ at + length (printed (decimal k ∷ now word ∷ now unit ∷ now port ∷ []))
+        ≤ length (now out) ⌝ }
+    ensures { λ r.
+        ⌜ Wrote (now (out .entry)) at
+        (printed (decimal k ∷ now (word .entry) ∷ now (unit .entry) ∷ now (port .entry) ∷ []))
+        (now (out .exit)) r ⌝ }
 {
     let a = put_count(out, at, k, b'\t');
     let b = put_field(out, a, word, b'\t');
@@ -49,8 +54,11 @@ pub fn put_entry(
 
 // How many bytes that line takes.
 pub fn entry_length(k: usize, word: &[u8], unit: &[u8], port: &[u8]) -> usize
-    requires { ⌜ (length (now word) ≤ 65535) × (length (now unit) ≤ 65535) × (length (now port) ≤ 65535) ⌝ }
-    ensures { λ r. ⌜ r ≡ length (printed (decimal k ∷ now (word .entry) ∷ now (unit .entry) ∷ now (port .entry) ∷ [])) ⌝ }
+    requires { ⌜ (length (now word) ≤ 65535) × (length (now unit) ≤ 65535)
+        × (length (now port) ≤ 65535) ⌝ }
+    ensures { λ r.
+        ⌜ r ≡ length (printed (decimal k ∷ now (word .entry) ∷ now (unit .entry) ∷ now (port .entry)
+        ∷ [])) ⌝ }
 {
     digit_count(k) + word.len() + unit.len() + port.len() + 4
 }

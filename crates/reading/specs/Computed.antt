@@ -1,4 +1,4 @@
--- What the theorems say of the example of SPECIFICATION, Lister 7, and of texts that are refused, computed.
+-- What the theorems say of SPECIFICATION, Lister 7, and of texts that are refused, computed.
 use Prim.Native.Nat.{ℕ}
 use Prim.Native.String.{String}
 use mathlib.Core.Path.{_≡_, refl}
@@ -12,7 +12,8 @@ use Rattle.grammar.specs.Opening.{linesOf}
 use Rattle.grammar.specs.Draft.{blank, unitNamed, known, addUnit}
 use Rattle.grammar.specs.Lines.{refused, refuse, taken, isName, faulty, kindOf, unitLine, line}
 use Rattle.grammar.specs.Reading.{stopped, pairs, version, linesFrom, lineByLine, reading}
-use Rattle.reading.specs.Numbers.{unitNumber, portNumber, joinPlace, joinOf, sourceNumber, feedNumbers, numbered}
+use Rattle.reading.specs.Numbers.{unitNumber, portNumber, joinPlace, joinOf}
+use Rattle.reading.specs.Numbers.{sourceNumber, feedNumbers, numbered}
 use Rattle.reading.specs.WhichLine.{lineCount, refusals, Lined}
 
 -- the first line, and these below it
@@ -37,8 +38,8 @@ alike =
 pub tables :
     (numbered (rows example) ≡ 2 ∷ 2 ∷ 2 ∷ 0 ∷ 0 ∷ 1 ∷ 0 ∷ 1 ∷ 0 ∷ 1 ∷ 1 ∷ 0 ∷ [])
     × (numbered (rows alike) ≡ 2 ∷ 2 ∷ 2 ∷ 1 ∷ 0 ∷ 1 ∷ 1 ∷ 0 ∷ 0 ∷ 1 ∷ 0 ∷ 1 ∷ 1 ∷ 0 ∷ [])
-unfolding same grown parted rows word place linesOf kindOf pairs unitNumber portNumber joinPlace joinOf
-    sourceNumber feedNumbers numbered
+unfolding same grown parted rows word place linesOf kindOf pairs unitNumber portNumber joinPlace
+    joinOf sourceNumber feedNumbers numbered
 tables = (refl, refl)
 
 -- ---- the lines of refusals
@@ -50,7 +51,10 @@ unended = below "unit"
 pub unended-lined : Lined unended (reading 644 unended)
 unfolding times lineOf lineCount stopped reading
 unended-lined = record {
-  none = (λ z. absurd (omega arith), λ s. absurd (elim s [ inl e ↦ omega arith | inr e ↦ omega arith ]));
+  none = (
+    λ z. absurd (omega arith),
+    λ s. absurd (elim s [ inl e ↦ omega arith | inr e ↦ omega arith ]),
+  );
   within = omega arith;
   last = λ e. refl;
   byte = λ e. absurd (omega arith);
@@ -64,10 +68,14 @@ abbrev unknown : List ℕ
 unknown = below "unit\ta\nunits\tb\n"
 
 pub unknown-lined : Lined unknown (reading 644 unknown)
-unfolding allowed same grown parted rows word place times lineOf firstBad blank unitNamed known addUnit refused
-    refuse taken isName faulty unitLine line stopped version linesFrom lineByLine reading lineCount refusals
+unfolding allowed same grown parted rows word place times lineOf firstBad blank unitNamed known
+    addUnit refused refuse taken isName faulty unitLine line stopped version linesFrom lineByLine
+    reading lineCount refusals
 unknown-lined = record {
-  none = (λ z. absurd (omega arith), λ s. absurd (elim s [ inl e ↦ omega arith | inr e ↦ omega arith ]));
+  none = (
+    λ z. absurd (omega arith),
+    λ s. absurd (elim s [ inl e ↦ omega arith | inr e ↦ omega arith ]),
+  );
   within = omega arith;
   last = λ e. absurd (omega arith);
   byte = λ e. absurd (omega arith);

@@ -83,7 +83,8 @@ module _ (t : List ℕ) where
     -- the line of a byte is one of the lines
     pub line-within : (i : ℕ) → i < length t → lineOf t i ≤ lineCount t
     unfolding lineOf
-    line-within i h = rw count-ended (times-before t (length t - 1) i (omega (arith, not-empty)) ended h)
+    line-within i h =
+        rw count-ended (times-before t (length t - 1) i (omega (arith, not-empty)) ended h)
 
     pub count-some : 1 ≤ lineCount t
     count-some = rw count-ended (times-some t (length t - 1) (omega (arith, not-empty)) ended)
@@ -92,7 +93,8 @@ module _ (t : List ℕ) where
     count-rows = rw (count-ended, rows-many t)
 
   -- the line behind the last LF is the last
-  pub last-line : 0 < length t → (getD t (length t - 1) 0 ≡ lf → ⊥) → lineOf t (length t) ≡ lineCount t
+  pub last-line : 0 < length t → (getD t (length t - 1) 0 ≡ lf → ⊥)
+      → lineOf t (length t) ≡ lineCount t
   unfolding lineOf lineCount
   last-line s n = rw (
     ne-eqb (length t) 0 (λ e. omega arith),

@@ -12,9 +12,11 @@ use Rattle.grammar.specs.Words.{same}
 use Rattle.grammar.specs.Same.{same-self}
 use Rattle.grammar.specs.Rows.{word, place}
 use Rattle.grammar.specs.Opening.{Row, linesOf}
-use Rattle.grammar.specs.Draft.{Draft, Output, Input, Feed, noInput, unitNamed, outputNamed, inputNamed, addUnit, addOutput, addInput, addFeed, addJoin, joined}
+use Rattle.grammar.specs.Draft.{Draft, Output, Input, Feed, noInput, unitNamed, outputNamed}
+use Rattle.grammar.specs.Draft.{inputNamed, addUnit, addOutput, addInput, addFeed, addJoin, joined}
 use Rattle.grammar.specs.Lines.{kindOf}
-use Rattle.reading.specs.Takes.{takes-unit, takes-output, takes-input, takes-feed, takes-join, Runs, ends, goes-on}
+use Rattle.reading.specs.Takes.{takes-unit, takes-output, takes-input}
+use Rattle.reading.specs.Takes.{takes-feed, takes-join, Runs, ends, goes-on}
 use Rattle.reading.specs.Found.{place-front, place-map}
 
 -- what there was, and behind it what each line that opens with w gives
@@ -28,11 +30,14 @@ module _ {B : Type 0} (w : List ℕ) (g : Row → B) (xs : List B) where
   at-first = sym (append-nil xs)
 
   module _ (f : Row) (fs : List Row) where
-    one-more : (x : B) → word f 0 ≡ w → x ≡ g f → onward w g (xs ++ (x ∷ [])) fs ≡ onward w g xs (f ∷ fs)
+    one-more : (x : B) → word f 0 ≡ w → x ≡ g f
+        → onward w g (xs ++ (x ∷ [])) fs ≡ onward w g xs (f ∷ fs)
     unfolding onward linesOf
-    one-more x e s = rw (e, is-true (same w w) (same-self w), s) (append-snoc xs (g f) (map g (linesOf fs w)))
+    one-more x e s =
+        rw (e, is-true (same w w) (same-self w), s) (append-snoc xs (g f) (map g (linesOf fs w)))
 
-    no-more : (v : List ℕ) → word f 0 ≡ v → T (not (same v w)) → onward w g xs fs ≡ onward w g xs (f ∷ fs)
+    no-more : (v : List ℕ) → word f 0 ≡ v → T (not (same v w))
+        → onward w g xs fs ≡ onward w g xs (f ∷ fs)
     unfolding onward linesOf
     no-more v e n = rw (e, is-false (same v w) n)
 
@@ -94,7 +99,8 @@ pub output-stays : {d last : Draft} {k : ℕ} {fs : List Row} → Runs d k fs la
     → outputNamed d u w ≡ outputNamed last u w
 unfolding outputNamed onward
 output-stays {d} r u w h =
-    rw (outputs-run r) (sym (place-front (λ o. eqb (o .owner) u && same (o .name) w) (d .outputs) _ h))
+    rw (outputs-run r) (sym
+    (place-front (λ o. eqb (o .owner) u && same (o .name) w) (d .outputs) _ h))
 
 -- a join changes no more than a source
 pub bare-join : (d : Draft) (x y : ℕ) → map bare (addJoin d x y .inputs) ≡ map bare (d .inputs)
@@ -123,7 +129,8 @@ unfolding inputNamed
 named-bare d u w = place-map (λ i. eqb (i .owner) u && same (i .name) w) bare (d .inputs)
 
 pub input-stays : {d last : Draft} {k : ℕ} {fs : List Row} → Runs d k fs last
-    → (u : ℕ) (w : List ℕ) → inputNamed d u w < length (d .inputs) → inputNamed d u w ≡ inputNamed last u w
+    → (u : ℕ) (w : List ℕ) → inputNamed d u w < length (d .inputs)
+    → inputNamed d u w ≡ inputNamed last u w
 unfolding onward
 input-stays {d} {last} r u w h =
     let p : Input → Bool = λ i. eqb (i .owner) u && same (i .name) w in

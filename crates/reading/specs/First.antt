@@ -9,10 +9,13 @@ use Rattle.grammar.specs.Words.{same}
 use Rattle.grammar.specs.Rows.{word, place}
 use Rattle.grammar.specs.Opening.{Row, linesOf}
 use Rattle.reading.specs.Joined.{none-more}
-use Rattle.reading.specs.Numbers.{unitNumber, portNumber, outputNumber, inputNumber, joinPlace, joinOf, sourceNumber, feedNumbers, isLoose, numbered}
+use Rattle.reading.specs.Numbers.{unitNumber, portNumber, outputNumber}
+use Rattle.reading.specs.Numbers.{inputNumber, joinPlace, joinOf, sourceNumber}
+use Rattle.reading.specs.Numbers.{feedNumbers, isLoose, numbered}
 
 module _ (first : Row) (fs : List Row) (opened : word first 0 ≡ ascii "cosim") where
-  pub below : (w : List ℕ) → T (not (same (ascii "cosim") w)) → linesOf (first ∷ fs) w ≡ linesOf fs w
+  pub below : (w : List ℕ) → T (not (same (ascii "cosim") w))
+      → linesOf (first ∷ fs) w ≡ linesOf fs w
   below w n = none-more w first fs (ascii "cosim") opened n
 
   pub unit-below : unitNumber (first ∷ fs) ≡ unitNumber fs

@@ -51,7 +51,8 @@ place-map p f [] = refl
 place-map p f (x ∷ xs) = ap (λ n. cond (p (f x)) 0 (suc n)) (place-map p f xs)
 
 -- two tests that agree at each place find the same place
-pub place-along : {A B : Type 0} (p : A → Bool) (q : B → Bool) (a : A) (b : B) (xs : List A) (ys : List B)
+pub place-along : {A B : Type 0} (p : A → Bool) (q : B → Bool) (a : A) (b : B) (xs : List A)
+    (ys : List B)
     → length xs ≡ length ys
     → ((i : ℕ) → i < length xs → p (getD xs i a) ≡ q (getD ys i b)) → place p xs ≡ place q ys
 unfolding place
@@ -70,7 +71,8 @@ module _ {A : Type 0} (alike : A → A → Bool) (e : A) where
   abbrev pub Once : List A → Type 0
   Once xs = (i : ℕ) → i < length xs → place (alike (getD xs i e)) xs ≡ i
 
-  pub once-more : (xs : List A) (x : A) → Once xs → length xs ≤ place (alike x) xs → alike x x ≡ true
+  pub once-more : (xs : List A) (x : A) → Once xs → length xs ≤ place (alike x) xs
+      → alike x x ≡ true
       → Once (xs ++ (x ∷ []))
   once-more xs x h n s i g =
       let q : length (xs ++ (x ∷ [])) ≡ length xs + 1 = length-append xs (x ∷ []) in

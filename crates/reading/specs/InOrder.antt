@@ -12,8 +12,11 @@ use Rattle.grammar.specs.Draft.{Feed}
 use Rattle.grammar.specs.Lines.{kindOf}
 use Rattle.grammar.specs.Reading.{reading, pairs as feedPairs}
 use Rattle.reading.specs.Proper.{noFeed}
-use Rattle.reading.specs.Parts.{map-in, map-at, pairs-long, pairs-input, pairs-output, output-owners, input-owners, kinds-are, sources-are, pairs-are}
-use Rattle.reading.specs.Numbers.{unitNumber, outputNumber, inputNumber, sourceNumber, feedNumbers, numbered}
+use Rattle.reading.specs.Parts.{map-in, map-at, pairs-long, pairs-input}
+use Rattle.reading.specs.Parts.{pairs-output, output-owners, input-owners}
+use Rattle.reading.specs.Parts.{kinds-are, sources-are, pairs-are}
+use Rattle.reading.specs.Numbers.{unitNumber, outputNumber, inputNumber}
+use Rattle.reading.specs.Numbers.{sourceNumber, feedNumbers, numbered}
 use Rattle.reading.specs.Numbered.{read-numbered}
 
 -- the shape s is that of the lines fs, in line order
@@ -75,11 +78,16 @@ module _ (fs : List Row) where
       let lb = length-map xs unitOf in
       let lc = length-map xs kind in
       let le = length-map xs source in
-      let P = output-owners (length us) (length ys) (length xs) (length ks) oo io kk ss qs la lb lc le long in
-      let Q = input-owners (length us) (length ys) (length xs) (length ks) oo io kk ss qs la lb lc le long in
-      let K = kinds-are (length us) (length ys) (length xs) (length ks) oo io kk ss qs la lb lc le long in
-      let S = sources-are (length us) (length ys) (length xs) (length ks) oo io kk ss qs la lb lc le long in
-      let F = pairs-are (length us) (length ys) (length xs) (length ks) oo io kk ss qs la lb lc le long in
+      let P = output-owners (length us) (length ys) (length xs)
+      (length ks) oo io kk ss qs la lb lc le long in
+      let Q = input-owners (length us) (length ys) (length xs)
+      (length ks) oo io kk ss qs la lb lc le long in
+      let K = kinds-are (length us) (length ys) (length xs)
+      (length ks) oo io kk ss qs la lb lc le long in
+      let S = sources-are (length us) (length ys) (length xs)
+      (length ks) oo io kk ss qs la lb lc le long in
+      let F = pairs-are (length us) (length ys) (length xs)
+      (length ks) oo io kk ss qs la lb lc le long in
       record {
         unit-lines = refl;
         output-lines = refl;

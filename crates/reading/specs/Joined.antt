@@ -15,8 +15,10 @@ use Rattle.grammar.specs.Words.{same}
 use Rattle.grammar.specs.Same.{same-self}
 use Rattle.grammar.specs.Rows.{word}
 use Rattle.grammar.specs.Opening.{Row, linesOf}
-use Rattle.grammar.specs.Draft.{Draft, Input, unjoined, noInput, unitNamed, outputNamed, inputNamed, addUnit, addOutput, addInput, addFeed, addJoin, joined}
-use Rattle.reading.specs.Takes.{takes-unit, takes-output, takes-input, takes-feed, takes-join, Runs, ends, goes-on}
+use Rattle.grammar.specs.Draft.{Draft, Input, unjoined, noInput, unitNamed, outputNamed}
+use Rattle.grammar.specs.Draft.{inputNamed, addUnit, addOutput, addInput, addFeed, addJoin, joined}
+use Rattle.reading.specs.Takes.{takes-unit, takes-output, takes-input}
+use Rattle.reading.specs.Takes.{takes-feed, takes-join, Runs, ends, goes-on}
 use Rattle.reading.specs.Parts.{map-in}
 use Rattle.reading.specs.Declared.{onward, outputs-run, unit-stays, output-stays, input-stays}
 
@@ -50,11 +52,13 @@ map-set f (x ∷ xs) zero a = refl
 map-set f (x ∷ xs) (suc i) a = ap (λ r. f x ∷ r) (map-set f xs i a)
 
 -- ---- the lines that open with w, with one line more
-pub first-more : (w : List ℕ) (f : Row) (fs : List Row) → word f 0 ≡ w → linesOf (f ∷ fs) w ≡ f ∷ linesOf fs w
+pub first-more : (w : List ℕ) (f : Row) (fs : List Row) → word f 0 ≡ w
+    → linesOf (f ∷ fs) w ≡ f ∷ linesOf fs w
 unfolding linesOf
 first-more w f fs e = rw (e, is-true (same w w) (same-self w))
 
-pub none-more : (w : List ℕ) (f : Row) (fs : List Row) (v : List ℕ) → word f 0 ≡ v → T (not (same v w))
+pub none-more : (w : List ℕ) (f : Row) (fs : List Row) (v : List ℕ) → word f 0 ≡ v
+    → T (not (same v w))
     → linesOf (f ∷ fs) w ≡ linesOf fs w
 unfolding linesOf
 none-more w f fs v e n = rw (e, is-false (same v w) n)
@@ -78,9 +82,11 @@ or-none s d x f fs v e n = rw (none-more (ascii "join") f fs v e n)
 
 -- a line that joins input x, which was not joined, to output y; and one that joins another
 or-joins : (d : Draft) (x y : ℕ) (f : Row) (fs : List Row) → word f 0 ≡ ascii "join"
-    → joinInput d f ≡ x → joinOutput d f ≡ y → (y ≡ unjoined → ⊥) → orBy y d x fs ≡ orBy unjoined d x (f ∷ fs)
+    → joinInput d f ≡ x → joinOutput d f ≡ y → (y ≡ unjoined → ⊥)
+    → orBy y d x fs ≡ orBy unjoined d x (f ∷ fs)
 unfolding orBy sourceBy
-or-joins d x y f fs e p q n = rw (ne-eqb y 255 n, first-more (ascii "join") f fs e, p, eq-eqb x x refl, q)
+or-joins d x y f fs e p q n =
+    rw (ne-eqb y 255 n, first-more (ascii "join") f fs e, p, eq-eqb x x refl, q)
 
 or-other : (s : ℕ) (d : Draft) (x : ℕ) (f : Row) (fs : List Row) → word f 0 ≡ ascii "join"
     → (joinInput d f ≡ x → ⊥) → orBy s d x fs ≡ orBy s d x (f ∷ fs)
@@ -115,8 +121,10 @@ module _ (d : Draft) (a y : ℕ) where
   source-free h e = map-in (λ (i : Input). i .source) noInput 255 (d .inputs) a h ∙ e
 
   -- a line that joins input a, which was not joined, to output y
-  or-join : (last : Draft) (f : Row) (fs : List Row) → word f 0 ≡ ascii "join" → joinInput last f ≡ a
-      → joinOutput last f ≡ y → a < length (d .inputs) → getD (d .inputs) a noInput .source ≡ unjoined
+  or-join : (last : Draft) (f : Row) (fs : List Row) → word f 0 ≡ ascii "join"
+      → joinInput last f ≡ a
+      → joinOutput last f ≡ y → a < length (d .inputs)
+      → getD (d .inputs) a noInput .source ≡ unjoined
       → y < unjoined
       → (x : ℕ) → orBy (sourceAt (addJoin d a y) x) last x fs ≡ orBy (sourceAt d x) last x (f ∷ fs)
   or-join last f fs w p q h e l x = elim (ℕ-discrete x a) [
@@ -129,13 +137,15 @@ module _ (d : Draft) (a y : ℕ) where
 
 -- ---- a join line's input and output keep their numbers
 module _ {d last : Draft} {k : ℕ} {fs : List Row} (r : Runs d k fs last) (f : Row) where
-  pub join-input-stays : unitNamed d (word f 3) < length (d .units) → joinInput d f < length (d .inputs)
+  pub join-input-stays : unitNamed d (word f 3) < length (d .units)
+      → joinInput d f < length (d .inputs)
       → joinInput last f ≡ joinInput d f
   join-input-stays u x =
       ap (λ u. inputNamed last u (word f 4)) (sym (unit-stays r (word f 3) u))
       ∙ sym (input-stays r _ (word f 4) x)
 
-  join-output-stays : unitNamed d (word f 1) < length (d .units) → joinOutput d f < length (d .outputs)
+  join-output-stays : unitNamed d (word f 1) < length (d .units)
+      → joinOutput d f < length (d .outputs)
       → joinOutput last f ≡ joinOutput d f
   join-output-stays u y =
       ap (λ u. outputNamed last u (word f 2)) (sym (unit-stays r (word f 1) u))
@@ -153,7 +163,8 @@ sources-run ends m x = or-first _ _ _
 sources-run (goes-on (takes-unit w n) r) m x = sources-run r m x ∙ or-none _ _ _ _ _ _ w tt
 sources-run (goes-on (takes-output w u n) r) m x = sources-run r m x ∙ or-none _ _ _ _ _ _ w tt
 sources-run {d} (goes-on {last = last} {fs = fs} (takes-input w u n) r) m x =
-    sources-run r m x ∙ ap (λ s. orBy s last x fs) (source-more d _ refl x) ∙ or-none _ _ _ _ _ _ w tt
+    sources-run r m x ∙ ap (λ s. orBy s last x fs) (source-more d _ refl x)
+    ∙ or-none _ _ _ _ _ _ w tt
 sources-run (goes-on (takes-feed w u y z) r) m x = sources-run r m x ∙ or-none _ _ _ _ _ _ w tt
 sources-run {d} (goes-on {last = last} {f = f} {fs = fs} (takes-join w u y v z s) r) m x =
     let t = goes-on (takes-join w u y v z s) r in

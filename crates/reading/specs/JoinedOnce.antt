@@ -8,8 +8,11 @@ use Rattle.grammar.specs.Quoted.{ascii}
 use Rattle.grammar.specs.Words.{same}
 use Rattle.grammar.specs.Opening.{Row, linesOf}
 use Rattle.grammar.specs.Draft.{Draft, unjoined, addUnit, addOutput, addFeed}
-use Rattle.reading.specs.Takes.{takes-unit, takes-output, takes-input, takes-feed, takes-join, Runs, ends, goes-on}
-use Rattle.reading.specs.Joined.{joinInput, joinOutput, sourceAt, first-more, none-more, source-more, source-joined, source-other, source-free, join-input-stays, outputs-more}
+use Rattle.reading.specs.Takes.{takes-unit, takes-output, takes-input}
+use Rattle.reading.specs.Takes.{takes-feed, takes-join, Runs, ends, goes-on}
+use Rattle.reading.specs.Joined.{joinInput, joinOutput, sourceAt, first-more}
+use Rattle.reading.specs.Joined.{none-more, source-more, source-joined, source-other}
+use Rattle.reading.specs.Joined.{source-free, join-input-stays, outputs-more}
 
 -- none of the lines joins input x
 unfoldable NoneJoins : Draft → ℕ → List Row → Type 0
@@ -30,11 +33,15 @@ not-again : {d last : Draft} {k : ℕ} {fs : List Row} → Runs d k fs last
     → (x : ℕ) → (sourceAt d x ≡ unjoined → ⊥) → NoneJoins last x (linesOf fs (ascii "join"))
 unfolding same addUnit addOutput addFeed
 not-again ends x n = none-first _ x
-not-again (goes-on (takes-unit w h) r) x n = rw (none-more (ascii "join") _ _ _ w tt) (not-again r x n)
-not-again (goes-on (takes-output w u h) r) x n = rw (none-more (ascii "join") _ _ _ w tt) (not-again r x n)
+not-again (goes-on (takes-unit w h) r) x n =
+    rw (none-more (ascii "join") _ _ _ w tt) (not-again r x n)
+not-again (goes-on (takes-output w u h) r) x n =
+    rw (none-more (ascii "join") _ _ _ w tt) (not-again r x n)
 not-again {d} (goes-on (takes-input w u h) r) x n =
-    rw (none-more (ascii "join") _ _ _ w tt) (not-again r x (λ e. n (sym (source-more d _ refl x) ∙ e)))
-not-again (goes-on (takes-feed w u y z) r) x n = rw (none-more (ascii "join") _ _ _ w tt) (not-again r x n)
+    rw (none-more (ascii "join") _ _ _ w tt)
+    (not-again r x (λ e. n (sym (source-more d _ refl x) ∙ e)))
+not-again (goes-on (takes-feed w u y z) r) x n =
+    rw (none-more (ascii "join") _ _ _ w tt) (not-again r x n)
 not-again {d} (goes-on {last = last} {f = f} {fs = fs} (takes-join w u y v z s) r) x n =
     let j = join-input-stays (goes-on (takes-join w u y v z s) r) f v z in
     let free = source-free d (joinInput d f) (joinOutput d f) z s in
@@ -45,7 +52,8 @@ not-again {d} (goes-on {last = last} {f = f} {fs = fs} (takes-join w u y v z s) 
 
 -- no two of the lines join one input
 unfoldable pub Apart : Draft → List Row → Type 0
-Apart d js = (i j : ℕ) → i < j → j < length js → joinInput d (getD js i []) ≡ joinInput d (getD js j []) → ⊥
+Apart d js =
+    (i j : ℕ) → i < j → j < length js → joinInput d (getD js i []) ≡ joinInput d (getD js j []) → ⊥
 
 apart-first : (d : Draft) → Apart d (linesOf [] (ascii "join"))
 unfolding Apart linesOf
@@ -62,10 +70,14 @@ pub joins-apart : {d last : Draft} {k : ℕ} {fs : List Row} → Runs d k fs las
     → length (last .outputs) ≤ 255 → Apart last (linesOf fs (ascii "join"))
 unfolding same addUnit addOutput addFeed
 joins-apart ends m = apart-first _
-joins-apart (goes-on (takes-unit w h) r) m = rw (none-more (ascii "join") _ _ _ w tt) (joins-apart r m)
-joins-apart (goes-on (takes-output w u h) r) m = rw (none-more (ascii "join") _ _ _ w tt) (joins-apart r m)
-joins-apart (goes-on (takes-input w u h) r) m = rw (none-more (ascii "join") _ _ _ w tt) (joins-apart r m)
-joins-apart (goes-on (takes-feed w u y z) r) m = rw (none-more (ascii "join") _ _ _ w tt) (joins-apart r m)
+joins-apart (goes-on (takes-unit w h) r) m =
+    rw (none-more (ascii "join") _ _ _ w tt) (joins-apart r m)
+joins-apart (goes-on (takes-output w u h) r) m =
+    rw (none-more (ascii "join") _ _ _ w tt) (joins-apart r m)
+joins-apart (goes-on (takes-input w u h) r) m =
+    rw (none-more (ascii "join") _ _ _ w tt) (joins-apart r m)
+joins-apart (goes-on (takes-feed w u y z) r) m =
+    rw (none-more (ascii "join") _ _ _ w tt) (joins-apart r m)
 joins-apart {d} (goes-on {last = last} {f = f} {fs = fs} (takes-join w u y v z s) r) m =
     let t = goes-on (takes-join w u y v z s) r in
     let j = join-input-stays t f v z in

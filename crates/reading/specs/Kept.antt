@@ -11,16 +11,17 @@ use Rattle.search.specs.Truth.{T-and, is-true}
 use Rattle.grammar.specs.Words.{same}
 use Rattle.grammar.specs.Rows.{word}
 use Rattle.grammar.specs.Places.{place-is}
-use Rattle.grammar.specs.Draft.{Draft, unjoined, noInput}
-use Rattle.grammar.specs.Draft.{unitNamed, outputNamed, inputNamed, feedOf, known}
-use Rattle.grammar.specs.Lines.{Outcome, refuse, refused, taken, kindOf}
-use Rattle.grammar.specs.Lines.{unitLine, outLine, inLine, feedLine, joinLine, line}
-use Rattle.reading.specs.Proper.{Proper, noOutput, noFeed}
-use Rattle.reading.specs.Proper.{unit-proper, output-proper, input-proper, feed-proper, join-proper}
+use Rattle.grammar.specs.Draft.{Draft, unjoined, noInput, unitNamed}
+use Rattle.grammar.specs.Draft.{outputNamed, inputNamed, feedOf, known}
+use Rattle.grammar.specs.Lines.{Outcome, refuse, refused, taken, kindOf, unitLine}
+use Rattle.grammar.specs.Lines.{outLine, inLine, feedLine, joinLine, line}
+use Rattle.reading.specs.Proper.{Proper, noOutput, noFeed, unit-proper, output-proper}
+use Rattle.reading.specs.Proper.{input-proper, feed-proper, join-proper}
 use Rattle.reading.specs.Keyword.{by-keyword}
 
 -- a refusal keeps the draft
-or-refused : (b : Bool) (n : ℕ) (d : Draft) (o : Outcome) → Proper d → (b ≡ false → Proper (o .draft))
+or-refused : (b : Bool) (n : ℕ) (d : Draft) (o : Outcome) → Proper d
+    → (b ≡ false → Proper (o .draft))
     → Proper (refuse b n d o .draft)
 unfolding refuse refused
 or-refused true n d o g h = g
@@ -64,7 +65,8 @@ module _ (d : Draft) (g : Proper d) where
   unfolding known feedOf
   feed-new x y e k h p q =
       let l = place-is (λ f. eqb (f .input) x && eqb (f .output) y) noFeed (d .feeds) in
-      let n : T (not (eqb (getD (d .feeds) k noFeed .input) x && eqb (getD (d .feeds) k noFeed .output) y))
+      let n : T (not (eqb (getD (d .feeds) k noFeed .input) x
+      && eqb (getD (d .feeds) k noFeed .output) y))
       = l .below k (omega (arith, ltb-false (feedOf d x y) (length (d .feeds)) e)) in
       let w : T (not (true && true)) = (rw (eq-eqb _ _ p, eq-eqb _ _ q) at n) in
       w
@@ -119,7 +121,8 @@ module _ (d : Draft) (g : Proper d) where
       or-refused _ 27 d _ g λ o.
       or-refused _ 32 d _ g λ n.
       or-refused _ 29 d _ g λ e.
-      feed-proper d g (record { input = inputNamed d u (word f 2); output = outputNamed d u (word f 3) })
+      feed-proper d g (record
+      { input = inputNamed d u (word f 2); output = outputNamed d u (word f 3) })
       (known-low (d .inputs) _ i) (known-low (d .outputs) _ o)
       (input-of u (word f 2) (known-low (d .inputs) _ i)
       ∙ sym (output-of u (word f 3) (known-low (d .outputs) _ o)))
@@ -140,4 +143,5 @@ module _ (d : Draft) (g : Proper d) where
   pub line-kept : (k : ℕ) (f : List (List ℕ)) → Proper (line d k f .draft)
   unfolding refused
   line-kept k f = by-keyword (λ o. Proper (o .draft)) d k f
-      (λ w. unit-kept f) (λ w. out-kept f) (λ w. in-kept k f) (λ w. feed-kept f) (λ w. join-kept f) g
+      (λ w. unit-kept f) (λ w. out-kept f) (λ w. in-kept k f) (λ w. feed-kept f)
+      (λ w. join-kept f) g

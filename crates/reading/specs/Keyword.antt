@@ -10,7 +10,8 @@ use Rattle.grammar.specs.Same.{same-true}
 use Rattle.grammar.specs.Rows.{word}
 use Rattle.grammar.specs.Opening.{Row}
 use Rattle.grammar.specs.Draft.{Draft}
-use Rattle.grammar.specs.Lines.{Outcome, refused, unitLine, outLine, inLine, feedLine, joinLine, line}
+use Rattle.grammar.specs.Lines.{Outcome, refused, unitLine, outLine}
+use Rattle.grammar.specs.Lines.{inLine, feedLine, joinLine, line}
 
 -- what holds of the outcome of each of the five, and of 24, holds of every line's
 pub by-keyword : (P : Outcome → Type 0) (d : Draft) (k : ℕ) (f : Row)

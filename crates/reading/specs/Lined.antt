@@ -15,7 +15,9 @@ use Rattle.grammar.specs.Draft.{Draft, blank}
 use Rattle.grammar.specs.Reading.{Reading, reading, stopped}
 use Rattle.reading.specs.Proper.{Proper}
 use Rattle.reading.specs.Takes.{Runs}
-use Rattle.reading.specs.Reads.{Closes, closes-33, closes-31, closes-34, closes-0, Comes, to-line, to-end, Reads, reads-20, reads-21, reads-22, reads-23, reads-lines, text-reads}
+use Rattle.reading.specs.Reads.{Closes, closes-33, closes-31, closes-34, closes-0}
+use Rattle.reading.specs.Reads.{Comes, to-line, to-end, Reads, reads-20, reads-21}
+use Rattle.reading.specs.Reads.{reads-22, reads-23, reads-lines, text-reads}
 use Rattle.reading.specs.Numbers.{isLoose}
 use Rattle.reading.specs.First.{loose-below}
 use Rattle.reading.specs.Loose.{loose-line}
@@ -74,7 +76,8 @@ module _ (room : ℕ) (t : List ℕ) where
     refused = λ a b c. absurd (omega arith);
   }
 
-  lined-byte : (k : ℕ) → 1 ≤ k → k ≤ lineCount t → k ≡ lineOf t (firstBad t) → Lined t (stopped 22 k)
+  lined-byte : (k : ℕ) → 1 ≤ k → k ≤ lineCount t → k ≡ lineOf t (firstBad t)
+      → Lined t (stopped 22 k)
   unfolding stopped
   lined-byte k s h e = record {
     none = some 22 k (omega arith) (omega arith) s;
@@ -100,7 +103,8 @@ module _ (room : ℕ) (t : List ℕ) where
   }
 
   lined-line : (n k : ℕ) → 24 ≤ n → n ≤ 32 → (n ≡ 31 → ⊥) → 1 ≤ k → k ≤ lineCount t
-      → let numbers = refusals blank 2 (drop 1 (rows t)) in let i = place (λ n. not (eqb n 0)) numbers in
+      → let numbers =
+      refusals blank 2 (drop 1 (rows t)) in let i = place (λ n. not (eqb n 0)) numbers in
       (k ≡ 2 + i) × (n ≡ getD numbers i 0) → Lined t (stopped n k)
   unfolding stopped
   lined-line n k a b c s h f = record {
@@ -114,12 +118,14 @@ module _ (room : ℕ) (t : List ℕ) where
   }
 
   -- ---- the end, the lines, the text
-  module _ (ended : getD t (length t - 1) 0 ≡ lf) (first : Row) (fs : List Row) (lines : rows t ≡ first ∷ fs)
+  module _ (ended : getD t (length t - 1) 0 ≡ lf) (first : Row) (fs : List Row)
+      (lines : rows t ≡ first ∷ fs)
       (opened : word first 0 ≡ ascii "cosim") where
     many : lineCount t ≡ suc (length fs)
     many = count-rows t ended ∙ ap length lines
 
-    lined-end : (last : Draft) (r : Reading) → Runs blank 2 fs last → Proper last → Closes room last r
+    lined-end : (last : Draft) (r : Reading) → Runs blank 2 fs last → Proper last
+        → Closes room last r
         → (r .number ≡ 0 → ⊥) → Lined t r
     lined-end last r c g (closes-33 z) n = lined-one 33 (inr refl) (count-some t ended)
     lined-end last r c g (closes-31 z) n =
@@ -146,5 +152,6 @@ module _ (room : ℕ) (t : List ℕ) where
   lined r (reads-lines s first fs l p o c) n = lined-come l first fs p o s c n
 
 -- where a text that is refused is refused
-pub refusal-lined : (room : ℕ) (t : List ℕ) → (reading room t .number ≡ 0 → ⊥) → Lined t (reading room t)
+pub refusal-lined : (room : ℕ) (t : List ℕ) → (reading room t .number ≡ 0 → ⊥)
+    → Lined t (reading room t)
 refusal-lined room t n = lined room t (reading room t) (text-reads room t) n

@@ -14,10 +14,12 @@ use Rattle.grammar.specs.Words.{same}
 use Rattle.grammar.specs.Same.{same-self}
 use Rattle.grammar.specs.Rows.{word, place}
 use Rattle.grammar.specs.Opening.{Row, linesOf}
-use Rattle.grammar.specs.Draft.{Draft, Input, blank, unjoined, noInput, unitNamed, outputNamed, loose, addUnit, addOutput, addInput, addFeed, addJoin, joined}
+use Rattle.grammar.specs.Draft.{Draft, Input, blank, unjoined, noInput, unitNamed, outputNamed}
+use Rattle.grammar.specs.Draft.{loose, addUnit, addOutput, addInput, addFeed, addJoin, joined}
 use Rattle.reading.specs.Proper.{Proper}
 use Rattle.reading.specs.Parts.{map-in}
-use Rattle.reading.specs.Takes.{takes-unit, takes-output, takes-input, takes-feed, takes-join, Runs, ends, goes-on}
+use Rattle.reading.specs.Takes.{takes-unit, takes-output, takes-input}
+use Rattle.reading.specs.Takes.{takes-feed, takes-join, Runs, ends, goes-on}
 use Rattle.reading.specs.Found.{place-most, place-along}
 use Rattle.reading.specs.Joined.{joinInput, joinOutput, sourceBy}
 use Rattle.reading.specs.Numbers.{joinPlace, isLoose}
@@ -27,7 +29,8 @@ use Rattle.reading.specs.Sourced.{source-by, join-place}
 -- the numbers of the lines that open with w, the first of all lines being line k
 unfoldable lineNumbers : List ℕ → ℕ → List Row → List ℕ
 lineNumbers w k [] = []
-lineNumbers w k (f ∷ fs) = cond (same (word f 0) w) (k ∷ lineNumbers w (suc k) fs) (lineNumbers w (suc k) fs)
+lineNumbers w k (f ∷ fs) =
+    cond (same (word f 0) w) (k ∷ lineNumbers w (suc k) fs) (lineNumbers w (suc k) fs)
 
 -- the lines of the inputs there were, and behind them those of the inputs that the lines declare
 unfoldable withLines : List ℕ → ℕ → List Row → List ℕ
@@ -63,13 +66,15 @@ lines-run {d} (goes-on {k = k} {fs = fs} (takes-input w u n) r) =
     ∙ lines-one (map lineOf (d .inputs)) k _ fs w
 lines-run (goes-on (takes-feed w u x y) r) = lines-run r ∙ lines-none _ _ _ _ _ w tt
 lines-run {d} (goes-on {k = k} {fs = fs} (takes-join w u y v x s) r) =
-    lines-run r ∙ ap (λ l. withLines l (suc k) fs) (map-set-same lineOf (d .inputs) _ _ noInput refl)
+    lines-run r ∙ ap (λ l. withLines l (suc k) fs)
+    (map-set-same lineOf (d .inputs) _ _ noInput refl)
     ∙ lines-none _ _ _ _ _ w tt
 
 -- the first of the lines that open with w and pass is the first line that opens with w and passes
 first-line : (w : List ℕ) (p : Row → Bool) (k : ℕ) (fs : List Row)
     → place p (linesOf fs w) < length (linesOf fs w)
-    → (getD (lineNumbers w k fs) (place p (linesOf fs w)) 0 ≡ k + place (λ f. same (word f 0) w && p f) fs)
+    → (getD (lineNumbers w k fs) (place p (linesOf fs w)) 0 ≡ k
+    + place (λ f. same (word f 0) w && p f) fs)
     × (place (λ f. same (word f 0) w && p f) fs < length fs)
 unfolding lineNumbers linesOf place
 first-line w p k [] h = absurd (omega arith)
@@ -96,7 +101,8 @@ first-line w p k (f ∷ fs) h = go (same (word f 0) w) (first-line w p (suc k) f
         → (getD numbers among 0 ≡ suc k + rest) × (rest < length fs))
         → place p (cond a (f ∷ linesOf fs w) (linesOf fs w))
         < length (cond a (f ∷ linesOf fs w) (linesOf fs w))
-        → (getD (cond a (k ∷ numbers) numbers) (place p (cond a (f ∷ linesOf fs w) (linesOf fs w))) 0
+        → (getD (cond a (k ∷ numbers) numbers)
+        (place p (cond a (f ∷ linesOf fs w) (linesOf fs w))) 0
         ≡ k + cond (a && p f) 0 (suc rest))
         × (cond (a && p f) 0 (suc rest) < suc (length fs))
     go true ih h = opened (p f) ih h
@@ -114,7 +120,8 @@ unfolding sourceBy place
 by-none d x [] low = refl
 by-none d x (f ∷ fs) low = go (eqb (joinInput d f) x) (by-none d x fs low)
   where
-    go : (b : Bool) → eqb (sourceBy d x fs) unjoined ≡ leb (length fs) (place (λ f. eqb (joinInput d f) x) fs)
+    go : (b : Bool) → eqb (sourceBy d x fs) unjoined
+        ≡ leb (length fs) (place (λ f. eqb (joinInput d f) x) fs)
         → eqb (cond b (joinOutput d f) (sourceBy d x fs)) unjoined
         ≡ leb (suc (length fs)) (cond b 0 (suc (place (λ f. eqb (joinInput d f) x) fs)))
     go true ih = ne-eqb (joinOutput d f) 255 (λ e. omega (arith, low f))
@@ -132,7 +139,8 @@ module _ (d : Draft) (fs : List Row) (r : Runs blank 2 fs d) (g : Proper d) wher
   unfolding outputNamed
   low f = omega (
     arith,
-    place-most (λ o. eqb (o .owner) (unitNamed d (word f 1)) && same (o .name) (word f 2)) (d .outputs),
+    place-most (λ o. eqb (o .owner) (unitNamed d (word f 1)) && same (o .name) (word f 2))
+        (d .outputs),
     g .outputs-most,
   )
 
@@ -153,9 +161,11 @@ module _ (d : Draft) (fs : List Row) (r : Runs blank 2 fs d) (g : Proper d) wher
       × (place (isLoose fs) fs < length fs)
   unfolding isLoose withLines blank
   loose-line h =
-      let l : place free inputLines < length inputLines = rw (← loose-place, ← inputs-count d fs r g) h in
+      let l : place free inputLines < length inputLines =
+      rw (← loose-place, ← inputs-count d fs r g) h in
       let (e, k) = first-line (ascii "in") free 2 fs l in (
-        sym (map-in lineOf noInput 0 (d .inputs) (loose d) h) ∙ ap (λ l. getD l (loose d) 0) (lines-run r)
+        sym (map-in lineOf noInput 0 (d .inputs) (loose d) h)
+            ∙ ap (λ l. getD l (loose d) 0) (lines-run r)
             ∙ ap (λ x. getD (lineNumbers (ascii "in") 2 fs) x 0) loose-place ∙ e,
         k,
       )

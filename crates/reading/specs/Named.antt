@@ -13,14 +13,17 @@ use Rattle.grammar.specs.Same.{same-true, same-self}
 use Rattle.grammar.specs.Rows.{word, place}
 use Rattle.grammar.specs.Places.{place-is}
 use Rattle.grammar.specs.Opening.{Row, linesOf}
-use Rattle.grammar.specs.Draft.{Draft, Output, Input, blank, noInput, unitNamed, outputNamed, inputNamed}
+use Rattle.grammar.specs.Draft.{Draft, Output, Input, blank, noInput}
+use Rattle.grammar.specs.Draft.{unitNamed, outputNamed, inputNamed}
 use Rattle.reading.specs.Proper.{Proper, noOutput}
 use Rattle.reading.specs.Parts.{map-in}
 use Rattle.reading.specs.Takes.{Runs}
 use Rattle.reading.specs.Found.{place-map, place-alike}
-use Rattle.reading.specs.Declared.{onward, outputBy, inputBy, feedBy, bare, units-run, outputs-run, inputs-run, feeds-run, named-bare}
+use Rattle.reading.specs.Declared.{onward, outputBy, inputBy, feedBy, bare, units-run}
+use Rattle.reading.specs.Declared.{outputs-run, inputs-run, feeds-run, named-bare}
 use Rattle.reading.specs.Once.{sameOutput, sameInput, units-once, outputs-once, inputs-once}
-use Rattle.reading.specs.Numbers.{unitNumber, portNumber, outputNumber, inputNumber, feedNumbers}
+use Rattle.reading.specs.Numbers.{unitNumber, portNumber, outputNumber}
+use Rattle.reading.specs.Numbers.{inputNumber, feedNumbers}
 
 module _ (d : Draft) (fs : List Row) (r : Runs blank 2 fs d) (g : Proper d) where
   abbrev unitLines : List Row
@@ -52,10 +55,12 @@ module _ (d : Draft) (fs : List Row) (r : Runs blank 2 fs d) (g : Proper d) wher
   -- ---- a unit's number
   pub unit-named : (w : List ℕ) → unitNamed d w ≡ unitNumber fs w
   unfolding unitNamed unitNumber
-  unit-named w = ap (place (λ n. same n w)) units-are ∙ place-map (λ n. same n w) (λ f. word f 1) unitLines
+  unit-named w =
+      ap (place (λ n. same n w)) units-are ∙ place-map (λ n. same n w) (λ f. word f 1) unitLines
 
   -- the name at the number of a unit that is known
-  name-of : (w : List ℕ) → unitNamed d w < length (d .units) → getD (d .units) (unitNamed d w) [] ≡ w
+  name-of : (w : List ℕ) → unitNamed d w < length (d .units)
+      → getD (d .units) (unitNamed d w) [] ≡ w
   unfolding unitNamed
   name-of w h = same-true _ w (place-is (λ n. same n w) [] (d .units) .passes h)
 
@@ -78,13 +83,15 @@ module _ (d : Draft) (fs : List Row) (r : Runs blank 2 fs d) (g : Proper d) wher
 
   input-at-place : (x : ℕ) → x < length inputLines
       → getD (map bare (d .inputs)) x noInput ≡ inputBy d (getD inputLines x [])
-  input-at-place x h = ap (λ l. getD l x noInput) inputs-are ∙ map-in (inputBy d) [] noInput inputLines x h
+  input-at-place x h =
+      ap (λ l. getD l x noInput) inputs-are ∙ map-in (inputBy d) [] noInput inputLines x h
 
   pub outputs-count : length (d .outputs) ≡ length outputLines
   outputs-count = ap length outputs-are ∙ length-map outputLines (outputBy d)
 
   pub inputs-count : length (d .inputs) ≡ length inputLines
-  inputs-count = sym (length-map (d .inputs) bare) ∙ ap length inputs-are ∙ length-map inputLines (inputBy d)
+  inputs-count =
+      sym (length-map (d .inputs) bare) ∙ ap length inputs-are ∙ length-map inputLines (inputBy d)
 
   output-known : (y : ℕ) → y < length outputLines
       → unitNamed d (word (getD outputLines y []) 1) < length (d .units)
@@ -112,7 +119,8 @@ module _ (d : Draft) (fs : List Row) (r : Runs blank 2 fs d) (g : Proper d) wher
   unfolding portNumber
   input-named v w =
       let p : Input → Bool = λ i. eqb (i .owner) (unitNamed d v) && same (i .name) w in
-      sym (named-bare d (unitNamed d v) w) ∙ ap (place p) inputs-are ∙ place-map p (inputBy d) inputLines
+      sym (named-bare d (unitNamed d v) w) ∙ ap (place p) inputs-are
+      ∙ place-map p (inputBy d) inputLines
       ∙ place-alike _ _ [] inputLines
       (λ i h. ap (λ b. b && same (word (getD inputLines i []) 2) w)
       (owner-alike (word (getD inputLines i []) 1) v (input-known i h)))
@@ -144,6 +152,8 @@ module _ (d : Draft) (fs : List Row) (r : Runs blank 2 fs d) (g : Proper d) wher
   unfolding blank
   input-at x h =
       let f = getD inputLines x [] in
-      sym (input-named (word f 1) (word f 2)) ∙ sym (named-bare d (unitNamed d (word f 1)) (word f 2))
+      sym (input-named (word f 1) (word f 2))
+      ∙ sym (named-bare d (unitNamed d (word f 1)) (word f 2))
       ∙ ap (λ i. place (sameInput i) (map bare (d .inputs))) (sym (input-at-place x h))
-      ∙ inputs-once r (λ i h. absurd (omega arith)) x (rw (length-map (d .inputs) bare, inputs-count) h)
+      ∙ inputs-once r (λ i h. absurd (omega arith)) x
+      (rw (length-map (d .inputs) bare, inputs-count) h)

@@ -16,7 +16,9 @@ use Rattle.reading.specs.First.{below}
 
 -- fields 1 and 2 of each line that opens with a keyword below the first line
 pub read-spelled : (room : ℕ) (t : List ℕ) → reading room t .number ≡ 0
-    → (w : List ℕ) → T (not (same (ascii "cosim") w)) → (i : ℕ) → Spelled (getD (linesOf (rows t) w) i [])
+    → (w : List ℕ) → T (not (same (ascii "cosim") w)) → (i : ℕ)
+    → Spelled (getD (linesOf (rows t) w) i [])
 read-spelled room t e w n =
     let r = text-read room t e in
-    rw (r .lines, below (r .first) (r .below) (r .opened) w n) (opened-spelled w (r .below) (r .spelled))
+    rw (r .lines, below (r .first) (r .below) (r .opened) w n)
+    (opened-spelled w (r .below) (r .spelled))

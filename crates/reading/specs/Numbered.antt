@@ -14,9 +14,13 @@ use Rattle.reading.specs.Proper.{Proper}
 use Rattle.reading.specs.Takes.{Runs}
 use Rattle.reading.specs.Declared.{bare, outputBy, inputBy}
 use Rattle.reading.specs.Reads.{Read, text-read}
-use Rattle.reading.specs.Numbers.{unitNumber, outputNumber, inputNumber, sourceNumber, feedNumbers, numbered}
-use Rattle.reading.specs.First.{below, unit-below, output-below, input-below, join-below, numbered-below}
-use Rattle.reading.specs.Named.{units-are, outputs-are, inputs-are, feeds-are, outputs-count, inputs-count, unit-named, feed-named, unit-at, output-at, input-at}
+use Rattle.reading.specs.Numbers.{unitNumber, outputNumber, inputNumber}
+use Rattle.reading.specs.Numbers.{sourceNumber, feedNumbers, numbered}
+use Rattle.reading.specs.First.{below, unit-below, output-below}
+use Rattle.reading.specs.First.{input-below, join-below, numbered-below}
+use Rattle.reading.specs.Named.{units-are, outputs-are, inputs-are, feeds-are}
+use Rattle.reading.specs.Named.{outputs-count, inputs-count, unit-named}
+use Rattle.reading.specs.Named.{feed-named, unit-at, output-at, input-at}
 use Rattle.reading.specs.Sourced.{sources-are, join-at}
 
 module _ (d : Draft) (fs : List Row) (r : Runs blank 2 fs d) (g : Proper d)
@@ -42,7 +46,9 @@ module _ (d : Draft) (fs : List Row) (r : Runs blank 2 fs d) (g : Proper d)
       ∙ ap (λ h. map h (linesOf fs (ascii "in"))) (fun-ext (λ f. unit-named d fs r g (word f 1)))
 
   of-feeds : d .feeds ≡ map (feedNumbers fs) (linesOf fs (ascii "feed"))
-  of-feeds = feeds-are d fs r g ∙ ap (λ h. map h (linesOf fs (ascii "feed"))) (fun-ext (feed-named d fs r g))
+  of-feeds =
+      feeds-are d fs r g ∙ ap (λ h. map h (linesOf fs (ascii "feed")))
+      (fun-ext (feed-named d fs r g))
 
   packed-numbered : packed d ≡ numbered fs
   unfolding packed numbered
@@ -105,7 +111,7 @@ module _ (room : ℕ) (t : List ℕ) (success : reading room t .number ≡ 0) wh
     below (read .first) (read .below) (read .opened) (ascii "in") tt,
   ) (input-at (read .draft) (read .below) (read .run) (read .proper))
 
-  -- each `join` line gives the input that it names the output that it names: no input is joined twice
+  -- each `join` line gives the input it names the output it names: no input is joined twice
   pub join-numbered : (j : ℕ) → j < length (linesOf (rows t) (ascii "join"))
       → let f = getD (linesOf (rows t) (ascii "join")) j [] in
       sourceNumber (rows t) (word f 3) (word f 4) ≡ outputNumber (rows t) (word f 1) (word f 2)

@@ -26,7 +26,7 @@ outputNumber = portNumber (ascii "out")
 abbrev pub inputNumber : List Row → List ℕ → List ℕ → ℕ
 inputNumber = portNumber (ascii "in")
 
--- the place of the line that joins the input n of the unit u among the `join` lines, or their count; and that line
+-- among the `join` lines, the place of the one for input n of unit u, or their count; that line
 unfoldable pub joinPlace : List Row → List ℕ → List ℕ → ℕ
 joinPlace fs u n = place (λ f. same (word f 3) u && same (word f 4) n) (linesOf fs (ascii "join"))
 

@@ -10,9 +10,11 @@ use Rattle.grammar.specs.Words.{same}
 use Rattle.grammar.specs.Same.{same-self}
 use Rattle.grammar.specs.Rows.{word}
 use Rattle.grammar.specs.Opening.{Row}
-use Rattle.grammar.specs.Draft.{Draft, Output, Input, noInput, unitNamed, outputNamed, addUnit, addOutput, addInput, addFeed, addJoin}
+use Rattle.grammar.specs.Draft.{Draft, Output, Input, noInput, unitNamed, outputNamed}
+use Rattle.grammar.specs.Draft.{addUnit, addOutput, addInput, addFeed, addJoin}
 use Rattle.reading.specs.Proper.{noOutput}
-use Rattle.reading.specs.Takes.{takes-unit, takes-output, takes-input, takes-feed, takes-join, Runs, ends, goes-on}
+use Rattle.reading.specs.Takes.{takes-unit, takes-output, takes-input}
+use Rattle.reading.specs.Takes.{takes-feed, takes-join, Runs, ends, goes-on}
 use Rattle.reading.specs.Found.{Once, once-more}
 use Rattle.reading.specs.Declared.{bare, bare-join, named-bare}
 
@@ -52,7 +54,8 @@ outputs-once (goes-on (takes-feed w u x y) r) h = outputs-once r h
 outputs-once (goes-on (takes-join w u y v x s) r) h = outputs-once r h
 
 pub inputs-once : {d last : Draft} {k : ℕ} {fs : List Row} → Runs d k fs last
-    → Once sameInput noInput (map bare (d .inputs)) → Once sameInput noInput (map bare (last .inputs))
+    → Once sameInput noInput (map bare (d .inputs))
+    → Once sameInput noInput (map bare (last .inputs))
 unfolding addUnit addOutput addInput addFeed
 inputs-once ends h = h
 inputs-once (goes-on (takes-unit w n) r) h = inputs-once r h

@@ -7,15 +7,18 @@ use lib.ListN.{length, getD, take, drop, length-append}
 use lib.Seq.{take-at, drop-at, drop-drop}
 use Rattle.grammar.specs.Draft.{Feed}
 use Rattle.grammar.specs.Reading.{pairs as feedPairs}
-use Rattle.table.specs.Packed.{outputs, inputs, feeds, outputOwners, inputOwners, kinds, sources, pairs, asked}
+use Rattle.table.specs.Packed.{outputs, inputs, feeds, outputOwners}
+use Rattle.table.specs.Packed.{inputOwners, kinds, sources, pairs, asked}
 use Rattle.reading.specs.Proper.{noFeed}
 
-pub map-in : {A B : Type 0} (f : A → B) (e : A) (z : B) (xs : List A) (i : ℕ) → i < length xs → getD (map f xs) i z ≡ f (getD xs i e)
+pub map-in : {A B : Type 0} (f : A → B) (e : A) (z : B) (xs : List A) (i : ℕ) → i < length xs
+    → getD (map f xs) i z ≡ f (getD xs i e)
 map-in f e z [] i h = absurd (omega arith)
 map-in f e z (x ∷ xs) zero h = refl
 map-in f e z (x ∷ xs) (suc i) h = map-in f e z xs i (omega arith)
 
-pub map-at : {A : Type 0} (f : A → ℕ) (e : A) (xs : List A) (i : ℕ) → i < length xs → getD (map f xs) i 0 ≡ f (getD xs i e)
+pub map-at : {A : Type 0} (f : A → ℕ) (e : A) (xs : List A) (i : ℕ) → i < length xs
+    → getD (map f xs) i 0 ≡ f (getD xs i e)
 map-at f e xs i h = map-in f e 0 xs i h
 
 pub pairs-long : (fs : List Feed) → length (feedPairs fs) ≡ 2 * length fs
@@ -23,22 +26,26 @@ unfolding feedPairs
 pairs-long [] = refl
 pairs-long (f ∷ fs) = let q = pairs-long fs in omega arith
 
-pub pairs-input : (fs : List Feed) (k : ℕ) → k < length fs → getD (feedPairs fs) (2 * k) 0 ≡ getD fs k noFeed .input
+pub pairs-input : (fs : List Feed) (k : ℕ) → k < length fs
+    → getD (feedPairs fs) (2 * k) 0 ≡ getD fs k noFeed .input
 unfolding feedPairs
 pairs-input [] k h = absurd (omega arith)
 pairs-input (f ∷ fs) zero h = refl
 pairs-input (f ∷ fs) (suc k) h =
     let z : 2 * suc k ≡ suc (suc (2 * k)) = omega arith in rw z (pairs-input fs k (omega arith))
 
-pub pairs-output : (fs : List Feed) (k : ℕ) → k < length fs → getD (feedPairs fs) (2 * k + 1) 0 ≡ getD fs k noFeed .output
+pub pairs-output : (fs : List Feed) (k : ℕ) → k < length fs
+    → getD (feedPairs fs) (2 * k + 1) 0 ≡ getD fs k noFeed .output
 unfolding feedPairs
 pairs-output [] k h = absurd (omega arith)
 pairs-output (f ∷ fs) zero h = refl
 pairs-output (f ∷ fs) (suc k) h =
-    let z : 2 * suc k + 1 ≡ suc (suc (2 * k + 1)) = omega arith in rw z (pairs-output fs k (omega arith))
+    let z : 2 * suc k + 1 ≡ suc (suc (2 * k + 1)) =
+    omega arith in rw z (pairs-output fs k (omega arith))
 
 module _ (u y x f : ℕ) (a b c e q : List ℕ)
-    (la : length a ≡ y) (lb : length b ≡ x) (lc : length c ≡ x) (le : length e ≡ x) (lq : length q ≡ 2 * f) where
+    (la : length a ≡ y) (lb : length b ≡ x) (lc : length c ≡ x) (le : length e ≡ x)
+    (lq : length q ≡ 2 * f) where
   abbrev t : List ℕ
   t = u ∷ (y ∷ (x ∷ (f ∷ (a ++ (b ++ (c ++ (e ++ q)))))))
 

@@ -7,7 +7,8 @@ use native.Mathlib.Omega.{arith}
 use native.Mathlib.Decide.{decLt, ℕ-discrete}
 use lib.ListN.{length, getD, set, length-append, length-set, List·getD-append}
 use lib.Seq.{getD-append-seam, getD-set-same, getD-set-other}
-use Rattle.grammar.specs.Draft.{Draft, Output, Input, Feed, blank, unjoined, noInput, addUnit, addOutput, addInput, addFeed, addJoin, joined}
+use Rattle.grammar.specs.Draft.{Draft, Output, Input, Feed, blank, unjoined, noInput}
+use Rattle.grammar.specs.Draft.{addUnit, addOutput, addInput, addFeed, addJoin, joined}
 
 abbrev pub noOutput : Output
 noOutput = record { owner = 0; name = [] }
@@ -20,13 +21,18 @@ pub record Proper (d : Draft) : Type 0 where
   pub outputs-most : length (d .outputs) ≤ 96
   pub inputs-most : length (d .inputs) ≤ 96
   pub feeds-most : length (d .feeds) ≤ 128
-  pub output-owned : (y : ℕ) → y < length (d .outputs) → getD (d .outputs) y noOutput .owner < length (d .units)
-  pub input-owned : (x : ℕ) → x < length (d .inputs) → getD (d .inputs) x noInput .owner < length (d .units)
+  pub output-owned : (y : ℕ) → y < length (d .outputs)
+      → getD (d .outputs) y noOutput .owner < length (d .units)
+  pub input-owned : (x : ℕ) → x < length (d .inputs)
+      → getD (d .inputs) x noInput .owner < length (d .units)
   pub kind-known : (x : ℕ) → x < length (d .inputs) → getD (d .inputs) x noInput .kind ≤ 1
   pub sourced : (x : ℕ) → x < length (d .inputs)
-      → (getD (d .inputs) x noInput .source ≡ unjoined) ⊎ (getD (d .inputs) x noInput .source < length (d .outputs))
-  pub feed-input : (k : ℕ) → k < length (d .feeds) → getD (d .feeds) k noFeed .input < length (d .inputs)
-  pub feed-output : (k : ℕ) → k < length (d .feeds) → getD (d .feeds) k noFeed .output < length (d .outputs)
+      → (getD (d .inputs) x noInput .source ≡ unjoined) ⊎
+      (getD (d .inputs) x noInput .source < length (d .outputs))
+  pub feed-input : (k : ℕ) → k < length (d .feeds)
+      → getD (d .feeds) k noFeed .input < length (d .inputs)
+  pub feed-output : (k : ℕ) → k < length (d .feeds)
+      → getD (d .feeds) k noFeed .output < length (d .outputs)
   pub feed-unit : (k : ℕ) → k < length (d .feeds)
       → getD (d .inputs) (getD (d .feeds) k noFeed .input) noInput .owner
       ≡ getD (d .outputs) (getD (d .feeds) k noFeed .output) noOutput .owner
@@ -66,7 +72,8 @@ module _ (d : Draft) (g : Proper d) where
   pub unit-proper : (n : List ℕ) → length (d .units) < 32 → Proper (addUnit d n)
   unfolding addUnit
   unit-proper n k =
-      let q : length (d .units ++ (n ∷ [])) ≡ length (d .units) + 1 = length-append (d .units) (n ∷ []) in
+      let q : length (d .units ++ (n ∷ [])) ≡ length (d .units) + 1 =
+      length-append (d .units) (n ∷ []) in
       record {
         units-most = omega arith;
         outputs-most = g .outputs-most;
@@ -82,24 +89,28 @@ module _ (d : Draft) (g : Proper d) where
         feed-once = g .feed-once;
       }
 
-  pub output-proper : (o : Output) → o .owner < length (d .units) → length (d .outputs) < 96 → Proper (addOutput d o)
+  pub output-proper : (o : Output) → o .owner < length (d .units) → length (d .outputs) < 96
+      → Proper (addOutput d o)
   unfolding addOutput
   output-proper o p k =
-      let q : length (d .outputs ++ (o ∷ [])) ≡ length (d .outputs) + 1 = length-append (d .outputs) (o ∷ []) in
+      let q : length (d .outputs ++ (o ∷ [])) ≡ length (d .outputs) + 1 =
+      length-append (d .outputs) (o ∷ []) in
       record {
         units-most = g .units-most;
         outputs-most = omega arith;
         inputs-most = g .inputs-most;
         feeds-most = g .feeds-most;
         output-owned =
-            each-more (λ z. z .owner < length (d .units)) (d .outputs) o noOutput (g .output-owned) p;
+            each-more (λ z. z .owner < length (d .units)) (d .outputs) o noOutput
+            (g .output-owned) p;
         input-owned = g .input-owned;
         kind-known = g .kind-known;
         sourced = λ i h. elim (g .sourced i h) [ inl z ↦ inl z | inr z ↦ inr (omega arith) ];
         feed-input = g .feed-input;
         feed-output = λ i h. omega (arith, g .feed-output i h);
         feed-unit = λ i h. g .feed-unit i h ∙ ap (λ (z : Output). z .owner)
-            (sym (List·getD-append (d .outputs) (o ∷ []) noOutput (getD (d .feeds) i noFeed .output) (g .feed-output i h)));
+            (sym (List·getD-append (d .outputs) (o ∷ []) noOutput (getD (d .feeds) i noFeed .output)
+            (g .feed-output i h)));
         feed-once = g .feed-once;
       }
 
@@ -107,22 +118,26 @@ module _ (d : Draft) (g : Proper d) where
       → length (d .inputs) < 96 → Proper (addInput d i)
   unfolding addInput
   input-proper i p r s k =
-      let q : length (d .inputs ++ (i ∷ [])) ≡ length (d .inputs) + 1 = length-append (d .inputs) (i ∷ []) in
+      let q : length (d .inputs ++ (i ∷ [])) ≡ length (d .inputs) + 1 =
+      length-append (d .inputs) (i ∷ []) in
       record {
         units-most = g .units-most;
         outputs-most = g .outputs-most;
         inputs-most = omega arith;
         feeds-most = g .feeds-most;
         output-owned = g .output-owned;
-        input-owned = each-more (λ z. z .owner < length (d .units)) (d .inputs) i noInput (g .input-owned) p;
+        input-owned =
+            each-more (λ z. z .owner < length (d .units)) (d .inputs) i noInput (g .input-owned) p;
         kind-known = each-more (λ z. z .kind ≤ 1) (d .inputs) i noInput (g .kind-known) r;
         sourced =
-            each-more (λ z. (z .source ≡ unjoined) ⊎ (z .source < length (d .outputs))) (d .inputs) i noInput
+            each-more (λ z. (z .source ≡ unjoined) ⊎ (z .source < length (d .outputs)))
+            (d .inputs) i noInput
             (g .sourced) (inl s);
         feed-input = λ j h. omega (arith, g .feed-input j h);
         feed-output = g .feed-output;
         feed-unit = λ j h. ap (λ (z : Input). z .owner)
-            (List·getD-append (d .inputs) (i ∷ []) noInput (getD (d .feeds) j noFeed .input) (g .feed-input j h))
+            (List·getD-append (d .inputs) (i ∷ []) noInput (getD (d .feeds) j noFeed .input)
+            (g .feed-input j h))
             ∙ g .feed-unit j h;
         feed-once = g .feed-once;
       }
@@ -134,7 +149,8 @@ module _ (d : Draft) (g : Proper d) where
       → length (d .feeds) < 128 → Proper (addFeed d f)
   unfolding addFeed
   feed-proper f x y o n k =
-      let q : length (d .feeds ++ (f ∷ [])) ≡ length (d .feeds) + 1 = length-append (d .feeds) (f ∷ []) in
+      let q : length (d .feeds ++ (f ∷ [])) ≡ length (d .feeds) + 1 =
+      length-append (d .feeds) (f ∷ []) in
       record {
         units-most = g .units-most;
         outputs-most = g .outputs-most;
@@ -144,18 +160,28 @@ module _ (d : Draft) (g : Proper d) where
         input-owned = g .input-owned;
         kind-known = g .kind-known;
         sourced = g .sourced;
-        feed-input = each-more (λ z. z .input < length (d .inputs)) (d .feeds) f noFeed (g .feed-input) x;
-        feed-output = each-more (λ z. z .output < length (d .outputs)) (d .feeds) f noFeed (g .feed-output) y;
+        feed-input =
+            each-more (λ z. z .input < length (d .inputs)) (d .feeds) f noFeed (g .feed-input) x;
+        feed-output =
+            each-more (λ z. z .output < length (d .outputs)) (d .feeds) f noFeed (g .feed-output) y;
         feed-unit = each-more
-            (λ z. getD (d .inputs) (z .input) noInput .owner ≡ getD (d .outputs) (z .output) noOutput .owner)
+            (λ z. getD (d .inputs) (z .input) noInput .owner
+            ≡ getD (d .outputs) (z .output) noOutput .owner)
             (d .feeds) f noFeed (g .feed-unit) o;
         feed-once = λ j i h l.
             let b : j < length (d .feeds) = omega arith in
             elim (decLt i (length (d .feeds))) [
-              | yes m ↦ rw (List·getD-append (d .feeds) (f ∷ []) noFeed j b, List·getD-append (d .feeds) (f ∷ []) noFeed i m)
+              | yes m ↦ rw (
+                List·getD-append (d .feeds) (f ∷ []) noFeed j b,
+                List·getD-append (d .feeds) (f ∷ []) noFeed i m,
+              )
                   (g .feed-once j i h m)
               | no m ↦ let z : i ≡ length (d .feeds) = omega arith in
-                  rw (List·getD-append (d .feeds) (f ∷ []) noFeed j b, z, getD-append-seam (d .feeds) f [] noFeed) (n j b)
+                  rw (
+                    List·getD-append (d .feeds) (f ∷ []) noFeed j b,
+                    z,
+                    getD-append-seam (d .feeds) f [] noFeed,
+                  ) (n j b)
             ];
       }
 
@@ -164,14 +190,17 @@ module _ (d : Draft) (g : Proper d) where
     abbrev now : Input
     now = joined (getD (d .inputs) x noInput) y
 
-    set-each : (P : Input → Type 0) → ((i : ℕ) → i < length (d .inputs) → P (getD (d .inputs) i noInput)) → P now
+    set-each : (P : Input → Type 0)
+        → ((i : ℕ) → i < length (d .inputs) → P (getD (d .inputs) i noInput)) → P now
         → (i : ℕ) → i < length (set (d .inputs) x now) → P (getD (set (d .inputs) x now) i noInput)
     set-each P a b i l = elim (ℕ-discrete i x) [
       | yes z ↦ rw (z, getD-set-same (d .inputs) x now noInput h) b
-      | no z ↦ rw (getD-set-other (d .inputs) x i now noInput z) (a i (rw (← length-set (d .inputs) x now) l))
+      | no z ↦ rw (getD-set-other (d .inputs) x i now noInput z)
+          (a i (rw (← length-set (d .inputs) x now) l))
     ]
 
-    set-owner : (i : ℕ) → getD (set (d .inputs) x now) i noInput .owner ≡ getD (d .inputs) i noInput .owner
+    set-owner : (i : ℕ) → getD (set (d .inputs) x now) i noInput .owner
+        ≡ getD (d .inputs) i noInput .owner
     unfolding joined
     set-owner i = elim (ℕ-discrete i x) [
       | yes z ↦ rw (z, getD-set-same (d .inputs) x now noInput h)
@@ -188,10 +217,12 @@ module _ (d : Draft) (g : Proper d) where
           inputs-most = rw q (g .inputs-most);
           feeds-most = g .feeds-most;
           output-owned = g .output-owned;
-          input-owned = set-each (λ z. z .owner < length (d .units)) (g .input-owned) (g .input-owned x h);
+          input-owned =
+              set-each (λ z. z .owner < length (d .units)) (g .input-owned) (g .input-owned x h);
           kind-known = set-each (λ z. z .kind ≤ 1) (g .kind-known) (g .kind-known x h);
           sourced =
-              set-each (λ z. (z .source ≡ unjoined) ⊎ (z .source < length (d .outputs))) (g .sourced) (inr l);
+              set-each (λ z. (z .source ≡ unjoined) ⊎ (z .source < length (d .outputs)))
+              (g .sourced) (inr l);
           feed-input = λ k m. rw q (g .feed-input k m);
           feed-output = g .feed-output;
           feed-unit = λ k m. set-owner (getD (d .feeds) k noFeed .input) ∙ g .feed-unit k m;

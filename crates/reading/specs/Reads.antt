@@ -16,7 +16,8 @@ use Rattle.grammar.specs.Opening.{Row}
 use Rattle.grammar.specs.Places.{place-is}
 use Rattle.grammar.specs.Draft.{Draft, noInput, unjoined, blank, known, loose}
 use Rattle.grammar.specs.Lines.{line}
-use Rattle.grammar.specs.Reading.{Reading, reading, lineByLine, linesFrom, ending, stopped, packed, version}
+use Rattle.grammar.specs.Reading.{Reading, reading, lineByLine, linesFrom}
+use Rattle.grammar.specs.Reading.{ending, stopped, packed, version}
 use Rattle.reading.specs.Proper.{Proper, blank-proper}
 use Rattle.reading.specs.Kept.{line-kept}
 use Rattle.reading.specs.WhichLine.{refusals}
@@ -37,7 +38,8 @@ pub data Closes (room : ℕ) (d : Draft) : Reading → Type 0 where
 
 -- the lines from line k on: one is the first that is refused, or all are taken
 pub data Comes (room : ℕ) (d : Draft) (k : ℕ) (fs : List Row) : Reading → Type 0 where
-  to-line : (i j n : ℕ) → i < length fs → j ≡ k + i → place (λ n. not (eqb n 0)) (refusals d k fs) ≡ i
+  to-line : (i j n : ℕ) → i < length fs → j ≡ k + i
+      → place (λ n. not (eqb n 0)) (refusals d k fs) ≡ i
       → getD (refusals d k fs) i 0 ≡ n → (n ≡ 0 → ⊥) → Comes room d k fs (stopped n j)
   to-end : (last : Draft) (r : Reading) → Runs d k fs last → ((i : ℕ) → Spelled (getD fs i []))
       → Proper last → Closes room last r → Comes room d k fs r
@@ -51,17 +53,20 @@ pub data Reads (room : ℕ) (t : List ℕ) : Reading → Type 0 where
       → Reads room t (stopped 22 (lineOf t (firstBad t)))
   reads-23 : getD t (length t - 1) 0 ≡ lf → Reads room t (stopped 23 1)
   reads-lines : (r : Reading) (first : Row) (fs : List Row) → getD t (length t - 1) 0 ≡ lf
-      → rows t ≡ first ∷ fs → word first 0 ≡ ascii "cosim" → Comes room blank 2 fs r → Reads room t r
+      → rows t ≡ first ∷ fs → word first 0 ≡ ascii "cosim" → Comes room blank 2 fs r
+      → Reads room t r
 
 pub ending-closes : (room : ℕ) (d : Draft) → Closes room d (ending room d)
 unfolding ending known
 ending-closes room d = go (eqb (length (d .units)) 0) refl (ltb (loose d) (length (d .inputs))) refl
     (ltb room (length (packed d))) refl
   where
-    go : (a : Bool) → eqb (length (d .units)) 0 ≡ a → (b : Bool) → ltb (loose d) (length (d .inputs)) ≡ b
+    go : (a : Bool) → eqb (length (d .units)) 0 ≡ a → (b : Bool)
+        → ltb (loose d) (length (d .inputs)) ≡ b
         → (c : Bool) → ltb room (length (packed d)) ≡ c
         → Closes room d (cond a (stopped 33 1)
-        (cond b (stopped 31 (getD (d .inputs) (loose d) noInput .line)) (cond c (stopped 34 0) (table d))))
+        (cond b (stopped 31 (getD (d .inputs) (loose d) noInput .line))
+        (cond c (stopped 34 0) (table d))))
     go true p b q c s = closes-33 (eqb-true _ _ p)
     go false p true q c s = closes-31 (ltb-true _ _ q)
     go false p false q true s = closes-34 (ltb-true _ _ s)
@@ -73,11 +78,13 @@ ending-closes room d = go (eqb (length (d .units)) 0) refl (ltb (loose d) (lengt
         some n z = omega arith
 
 line-above : (room : ℕ) (d : Draft) (k : ℕ) (f : Row) (fs : List Row) (r : Reading)
-    → line d k f .number ≡ 0 → Comes room (line d k f .draft) (suc k) fs r → Comes room d k (f ∷ fs) r
+    → line d k f .number ≡ 0 → Comes room (line d k f .draft) (suc k) fs r
+    → Comes room d k (f ∷ fs) r
 unfolding refusals place
 line-above room d k f fs r t (to-line i j n h p a q z) =
     to-line (suc i) j n (omega arith) (omega arith) (rw (t, a)) q z
-line-above room d k f fs r t (to-end last s c n g x) = to-end last s (goes-on (line-taken d k f t) c)
+line-above room d k f fs r t (to-end last s c n g x) =
+    to-end last s (goes-on (line-taken d k f t) c)
     (elim [ zero ↦ line-spelled d f k t | suc i ↦ n i ]) g x
 
 pub lines-come : (room : ℕ) (d : Draft) (k : ℕ) (fs : List Row) → Proper d
@@ -85,7 +92,8 @@ pub lines-come : (room : ℕ) (d : Draft) (k : ℕ) (fs : List Row) → Proper d
 unfolding linesFrom refusals place word
 lines-come room d k [] g = to-end d _ ends (λ i. omega arith) g (ending-closes room d)
 lines-come room d k (f ∷ fs) g =
-    go (eqb (line d k f .number) 0) refl (lines-come room (line d k f .draft) (suc k) fs (line-kept d g k f))
+    go (eqb (line d k f .number) 0) refl
+    (lines-come room (line d k f .draft) (suc k) fs (line-kept d g k f))
   where
     go : (b : Bool) → eqb (line d k f .number) 0 ≡ b
         → Comes room (line d k f .draft) (suc k) fs (linesFrom room (line d k f .draft) (suc k) fs)
@@ -107,7 +115,8 @@ first-opens f e =
     go true e = tt
     go false e = absurd (mathlib.Core.Bool.true≢false e)
 
-first-some : (fs : List Row) → eqb (version (getD fs 0 [])) 0 ≡ false → fs ≡ getD fs 0 [] ∷ drop 1 fs
+first-some : (fs : List Row) → eqb (version (getD fs 0 [])) 0 ≡ false
+    → fs ≡ getD fs 0 [] ∷ drop 1 fs
 unfolding version
 first-some [] e = absurd (mathlib.Core.Bool.true≢false e)
 first-some (f ∷ fs) e = refl
@@ -134,7 +143,8 @@ text-reads room t =
     go false z true p true q e s = reads-22 (eqb-true _ _ p) (ltb-true _ _ q)
     go false z true p false q true s = reads-23 (eqb-true _ _ p)
     go false z true p false q false s =
-        reads-lines _ (getD (rows t) 0 []) (drop 1 (rows t)) (eqb-true _ _ p) (first-some (rows t) s)
+        reads-lines _ (getD (rows t) 0 []) (drop 1 (rows t)) (eqb-true _ _ p)
+        (first-some (rows t) s)
         (first-opens _ s)
         (lines-come room blank 2 (drop 1 (rows t)) blank-proper)
 

@@ -7,7 +7,8 @@ use native.Mathlib.Omega.{arith}
 use lib.ListN.{getD}
 use Rattle.grammar.specs.Opening.{Row}
 use Rattle.grammar.specs.Draft.{Draft}
-use Rattle.grammar.specs.Lines.{Outcome, refuse, refused, taken, unitLine, outLine, inLine, feedLine, joinLine, line}
+use Rattle.grammar.specs.Lines.{Outcome, refuse, refused, taken, unitLine}
+use Rattle.grammar.specs.Lines.{outLine, inLine, feedLine, joinLine, line}
 use Rattle.reading.specs.Keyword.{by-keyword}
 use Rattle.reading.specs.WhichLine.{refusals}
 
@@ -79,10 +80,12 @@ module _ (d : Draft) (k : ℕ) (f : Row) where
   pub line-number : LineNumber (line d k f .number)
   unfolding refused
   line-number = by-keyword (λ o. LineNumber (o .number)) d k f
-      (λ w. unit-number) (λ w. output-number) (λ w. input-number) (λ w. feed-number) (λ w. join-number)
+      (λ w. unit-number) (λ w. output-number) (λ w. input-number) (λ w. feed-number)
+      (λ w. join-number)
       (omega arith)
 
-pub refusals-numbers : (d : Draft) (k : ℕ) (fs : List Row) (i : ℕ) → LineNumber (getD (refusals d k fs) i 0)
+pub refusals-numbers : (d : Draft) (k : ℕ) (fs : List Row) (i : ℕ)
+    → LineNumber (getD (refusals d k fs) i 0)
 unfolding refusals
 refusals-numbers d k [] i = omega arith
 refusals-numbers d k (f ∷ fs) zero = line-number d k f

@@ -10,7 +10,9 @@ use Rattle.grammar.specs.Reading.{Reading, reading, stopped, packed}
 use Rattle.reading.specs.Proper.{Proper}
 use Rattle.reading.specs.Parts.{pairs-long}
 use Rattle.reading.specs.Refused.{refusals-numbers}
-use Rattle.reading.specs.Reads.{Closes, closes-33, closes-31, closes-34, closes-0, Comes, to-line, to-end, Reads, reads-20, reads-21, reads-22, reads-23, reads-lines, text-reads}
+use Rattle.reading.specs.Reads.{Closes, closes-33, closes-31, closes-34, closes-0}
+use Rattle.reading.specs.Reads.{Comes, to-line, to-end, Reads, reads-20, reads-21}
+use Rattle.reading.specs.Reads.{reads-22, reads-23, reads-lines, text-reads}
 
 -- no table is longer
 pub packed-most : (d : Draft) → Proper d → length (packed d) ≤ 644

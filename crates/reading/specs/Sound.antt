@@ -17,11 +17,14 @@ use Rattle.reading.specs.Proper.{Proper, noOutput, noFeed}
 use Rattle.reading.specs.Reads.{not-loose, text-read}
 use Rattle.reading.specs.Numbers.{numbered}
 use Rattle.reading.specs.Numbered.{read-numbered}
-use Rattle.reading.specs.Parts.{map-at, pairs-long, pairs-input, pairs-output, long, output-owners, input-owners, kinds-are, sources-are, pairs-are}
+use Rattle.reading.specs.Parts.{map-at, pairs-long, pairs-input, pairs-output}
+use Rattle.reading.specs.Parts.{long, output-owners, input-owners, kinds-are}
+use Rattle.reading.specs.Parts.{sources-are, pairs-are}
 
 -- ---- a proper draft with a unit, whose inputs are all joined
 module _ (d : Draft) (g : Proper d) (some : 0 < length (d .units))
-    (all : (x : ℕ) → x < length (d .inputs) → getD (d .inputs) x noInput .source < length (d .outputs)) where
+    (all : (x : ℕ) → x < length (d .inputs)
+    → getD (d .inputs) x noInput .source < length (d .outputs)) where
   abbrev oo : List ℕ
   oo = map (λ (o : Output). o .owner) (d .outputs)
 
@@ -49,15 +52,20 @@ module _ (d : Draft) (g : Proper d) (some : 0 < length (d .units))
   packed-wired : Wired (shapeOf (packed d))
   unfolding packed units outputs inputs feeds
   packed-wired =
-      let P = output-owners (length (d .units)) (length (d .outputs)) (length (d .inputs)) (length (d .feeds))
+      let P = output-owners (length (d .units)) (length (d .outputs)) (length (d .inputs))
+      (length (d .feeds))
       oo io ks ss (feedPairs (d .feeds)) la lb lc le (pairs-long (d .feeds)) in
-      let Q = input-owners (length (d .units)) (length (d .outputs)) (length (d .inputs)) (length (d .feeds))
+      let Q = input-owners (length (d .units)) (length (d .outputs)) (length (d .inputs))
+      (length (d .feeds))
       oo io ks ss (feedPairs (d .feeds)) la lb lc le (pairs-long (d .feeds)) in
-      let K = kinds-are (length (d .units)) (length (d .outputs)) (length (d .inputs)) (length (d .feeds))
+      let K = kinds-are (length (d .units)) (length (d .outputs)) (length (d .inputs))
+      (length (d .feeds))
       oo io ks ss (feedPairs (d .feeds)) la lb lc le (pairs-long (d .feeds)) in
-      let S = sources-are (length (d .units)) (length (d .outputs)) (length (d .inputs)) (length (d .feeds))
+      let S = sources-are (length (d .units)) (length (d .outputs)) (length (d .inputs))
+      (length (d .feeds))
       oo io ks ss (feedPairs (d .feeds)) la lb lc le (pairs-long (d .feeds)) in
-      let F = pairs-are (length (d .units)) (length (d .outputs)) (length (d .inputs)) (length (d .feeds))
+      let F = pairs-are (length (d .units)) (length (d .outputs)) (length (d .inputs))
+      (length (d .feeds))
       oo io ks ss (feedPairs (d .feeds)) la lb lc le (pairs-long (d .feeds)) in
       record {
         output-owned = λ y h. rw (P, map-at (λ (o : Output). o .owner) noOutput (d .outputs) y h)
@@ -66,7 +74,8 @@ module _ (d : Draft) (g : Proper d) (some : 0 < length (d .units))
             (g .input-owned x h);
         kind-known = λ x h. rw (K, map-at (λ (i : Input). i .kind) noInput (d .inputs) x h)
             (g .kind-known x h);
-        sourced = λ x h. rw (S, map-at (λ (i : Input). i .source) noInput (d .inputs) x h) (all x h);
+        sourced =
+            λ x h. rw (S, map-at (λ (i : Input). i .source) noInput (d .inputs) x h) (all x h);
         feed-input = λ k h. rw (F, pairs-input (d .feeds) k h) (g .feed-input k h);
         feed-output = λ k h. rw (F, pairs-output (d .feeds) k h) (g .feed-output k h);
         feed-unit = λ k h. rw (
@@ -111,17 +120,20 @@ module _ (d : Draft) (g : Proper d) (some : 0 < length (d .units))
 -- a source of a proper draft that is there is an output
 joined-all : (d : Draft) → Proper d → length (d .inputs) ≤ loose d
     → (x : ℕ) → x < length (d .inputs) → getD (d .inputs) x noInput .source < length (d .outputs)
-joined-all d g all x h = elim (g .sourced x h) [ inr z ↦ z | inl z ↦ absurd (not-loose d all x h z) ]
+joined-all d g all x h =
+    elim (g .sourced x h) [ inr z ↦ z | inl z ↦ absurd (not-loose d all x h z) ]
 
 -- a text that is read gives a sound table
-pub read-sound : (room : ℕ) (t : List ℕ) → reading room t .number ≡ 0 → Sound (reading room t .bytes)
+pub read-sound : (room : ℕ) (t : List ℕ) → reading room t .number ≡ 0
+    → Sound (reading room t .bytes)
 read-sound room t e =
     let r = text-read room t e in
     subst (λ (z : Reading). Sound (z .bytes)) (sym (r .result))
     (packed-sound (r .draft) (r .proper) (r .some) (joined-all (r .draft) (r .proper) (r .joined)))
 
 -- and the packed check answers 0 on it
-pub read-checked : (room : ℕ) (t : List ℕ) → reading room t .number ≡ 0 → refusal (reading room t .bytes) ≡ 0
+pub read-checked : (room : ℕ) (t : List ℕ) → reading room t .number ≡ 0
+    → refusal (reading room t .bytes) ≡ 0
 read-checked room t e = sound-passed (reading room t .bytes) (read-sound room t e)
 
 -- so is the table of its lines, numbered in line order, which is the same

@@ -15,7 +15,8 @@ use Rattle.grammar.specs.Same.{same-true, same-self}
 use Rattle.grammar.specs.Rows.{word, place}
 use Rattle.grammar.specs.Places.{place-is}
 use Rattle.grammar.specs.Opening.{Row, linesOf}
-use Rattle.grammar.specs.Draft.{Draft, Input, blank, unjoined, noInput, unitNamed, inputNamed, loose}
+use Rattle.grammar.specs.Draft.{Draft, Input, blank, unjoined}
+use Rattle.grammar.specs.Draft.{noInput, unitNamed, inputNamed, loose}
 use Rattle.reading.specs.Proper.{Proper}
 use Rattle.reading.specs.Parts.{map-in}
 use Rattle.reading.specs.Reads.{not-loose}
@@ -27,7 +28,8 @@ use Rattle.reading.specs.Numbers.{portNumber, joinPlace, joinOf, sourceN
 use Rattle.reading.specs.Named.{inputs-count, output-named, input-named, input-at}
 
 both-true : (a b c e : List ℕ) → T (same a b && same c e) → (a ≡ b) × (c ≡ e)
-both-true a b c e t = let (p, q) = T-and (same a b) (same c e) t in (same-true a b p, same-true c e q)
+both-true a b c e t =
+    let (p, q) = T-and (same a b) (same c e) t in (same-true a b p, same-true c e q)
 
 both-same : (a b c e : List ℕ) → a ≡ b → c ≡ e → T (same a b && same c e)
 both-same a b c e p q = rw (p, q) (and-T (same b b) (same e e) (same-self b) (same-self e))
@@ -61,7 +63,8 @@ module _ (d : Draft) (fs : List Row) (r : Runs blank 2 fs d) (g : Proper d) wher
   -- a line joins input x when it names its unit and its name
   joins-alike : (x : ℕ) → x < length inputLines → (f : Row)
       → eqb (joinInput d f) x
-      ≡ same (word f 3) (word (getD inputLines x []) 1) && same (word f 4) (word (getD inputLines x []) 2)
+      ≡ same (word f 3) (word (getD inputLines x []) 1)
+      && same (word f 4) (word (getD inputLines x []) 2)
   unfolding portNumber
   joins-alike x h f = same-test (eqb (joinInput d f) x)
       (same (word f 3) (word i 1) && same (word f 4) (word i 2)) there back
@@ -74,15 +77,18 @@ module _ (d : Draft) (fs : List Row) (r : Runs blank 2 fs d) (g : Proper d) wher
 
       -- the line at the number that is found has the unit and the name
       passes : place test inputLines ≡ x → T (test i)
-      passes e = subst (λ k. T (test (getD inputLines k []))) e (place-is test [] inputLines .passes (rw e h))
+      passes e = subst (λ k. T (test (getD inputLines k []))) e
+          (place-is test [] inputLines .passes (rw e h))
 
-      there : T (eqb (joinInput d f) x) → T (same (word f 3) (word i 1) && same (word f 4) (word i 2))
+      there : T (eqb (joinInput d f) x)
+          → T (same (word f 3) (word i 1) && same (word f 4) (word i 2))
       there t =
           let (a, b) = both-true _ _ _ _
           (passes (sym (input-named d fs r g (word f 3) (word f 4)) ∙ eqb→eq _ _ t)) in
           both-same _ _ _ _ (sym a) (sym b)
 
-      back : T (same (word f 3) (word i 1) && same (word f 4) (word i 2)) → T (eqb (joinInput d f) x)
+      back : T (same (word f 3) (word i 1) && same (word f 4) (word i 2))
+          → T (eqb (joinInput d f) x)
       back t =
           let (a, b) = both-true (word f 3) (word i 1) (word f 4) (word i 2) t in
           eq-true (joinInput d f) x (input-named d fs r g (word f 3) (word f 4)
@@ -118,16 +124,19 @@ module _ (d : Draft) (fs : List Row) (r : Runs blank 2 fs d) (g : Proper d) wher
           (sym (map-in (λ (i : Input). i .source) noInput unjoined (d .inputs) x h) ∙ e)
 
       each : (x : ℕ) → x < length (map (λ (i : Input). i .source) (d .inputs))
-          → sourceAt d x ≡ getD (map (λ f. sourceNumber fs (word f 1) (word f 2)) inputLines) x unjoined
+          → sourceAt d x ≡ getD (map (λ f. sourceNumber fs (word f 1) (word f 2)) inputLines) x
+          unjoined
       each x h =
-          let l : x < length (d .inputs) = rw (← length-map (d .inputs) (λ (i : Input). i .source)) h in
+          let l : x < length (d .inputs) =
+          rw (← length-map (d .inputs) (λ (i : Input). i .source)) h in
           let k : x < length inputLines = rw (← inputs-count d fs r g) l in
           source-is x k (joined x l)
           ∙ sym (map-in (λ f. sourceNumber fs (word f 1) (word f 2)) [] unjoined inputLines x k)
 
   -- each line that joins is the one that joins its input
   pub join-at : (j : ℕ) → j < length joinLines
-      → joinOf fs (word (getD joinLines j []) 3) (word (getD joinLines j []) 4) ≡ getD joinLines j []
+      → joinOf fs (word (getD joinLines j []) 3) (word (getD joinLines j []) 4)
+      ≡ getD joinLines j []
   unfolding joinOf joinPlace Apart
   join-at j h = ap (λ k. getD joinLines k []) found
     where
@@ -142,7 +151,8 @@ module _ (d : Draft) (fs : List Row) (r : Runs blank 2 fs d) (g : Proper d) wher
         | yes l ↦
             let (a, b) = both-true _ _ _ _ (place-is test [] joinLines .passes (omega arith)) in
             absurd (joins-apart r (omega (arith, g .outputs-most)) (place test joinLines) j l h
-            (ap (λ v. inputNamed d (unitNamed d v) (word (getD joinLines (place test joinLines) []) 4)) a
+            (ap (λ v. inputNamed d (unitNamed d v)
+            (word (getD joinLines (place test joinLines) []) 4)) a
             ∙ ap (inputNamed d (unitNamed d (word f 3))) b))
         | no l ↦ elim (decLt j (place test joinLines)) [
           | yes k ↦ absurd (clash (test f)

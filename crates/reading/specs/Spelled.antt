@@ -13,7 +13,8 @@ use Rattle.grammar.specs.Words.{same}
 use Rattle.grammar.specs.Rows.{word}
 use Rattle.grammar.specs.Opening.{Row, linesOf}
 use Rattle.grammar.specs.Draft.{Draft}
-use Rattle.grammar.specs.Lines.{Outcome, refuse, refused, isName, faulty, unitLine, outLine, inLine, feedLine, joinLine, line}
+use Rattle.grammar.specs.Lines.{Outcome, refuse, refused, isName, faulty, unitLine}
+use Rattle.grammar.specs.Lines.{outLine, inLine, feedLine, joinLine, line}
 use Rattle.reading.specs.Keyword.{by-keyword}
 
 -- where a line has no field 1 or 2, that is empty
@@ -37,7 +38,8 @@ name-field f (suc n) i e h =
     go : (a : Bool) → ltb 0 (faulty f n) ≡ a → (b : Bool) → isName (word f (suc n)) ≡ b
         → (ltb 0 (faulty f n) ≡ false → i < n → length (word f (suc i)) ≤ 16)
         → ltb 0 (cond a (faulty f n) (cond b 0 (suc n))) ≡ false → length (word f (suc i)) ≤ 16
-    go true p b q ih e = absurd (omega (arith, ltb-true 0 (faulty f n) p, ltb-false 0 (faulty f n) e))
+    go true p b q ih e =
+        absurd (omega (arith, ltb-true 0 (faulty f n) p, ltb-false 0 (faulty f n) e))
     go false p false q ih e = absurd (omega (arith, ltb-false 0 (suc n) e))
     go false p true q ih e = elim (ℕ-discrete i n) [
       | yes z ↦ rw z (name-short (word f (suc n)) q)
@@ -46,14 +48,16 @@ name-field f (suc n) i e h =
 
 -- ---- a line that is taken has as many fields as its keyword asks, and its names are names
 module _ (d : Draft) (f : Row) where
-  passed : (b : Bool) (n : ℕ) (o : Outcome) → 0 < n → refuse b n d o .number ≡ 0 → (b ≡ false) × (o .number ≡ 0)
+  passed : (b : Bool) (n : ℕ) (o : Outcome) → 0 < n → refuse b n d o .number ≡ 0
+      → (b ≡ false) × (o .number ≡ 0)
   unfolding refuse refused
   passed true n o p e = absurd (omega arith)
   passed false n o p e = (refl, e)
 
   -- m fields, the n after the keyword names; a field 2 that is no name is past the end
   opening : (m n : ℕ) (o : Outcome) → 0 < n → (n < 2 → m ≤ 2)
-      → refuse (not (eqb (length f) m)) 24 d (refuse (ltb 0 (faulty f n)) 25 d o) .number ≡ 0 → Spelled f
+      → refuse (not (eqb (length f) m)) 24 d (refuse (ltb 0 (faulty f n)) 25 d o) .number ≡ 0
+      → Spelled f
   unfolding word
   opening m n o p q e =
       let (a, r) = passed _ 24 _ (omega arith) e in

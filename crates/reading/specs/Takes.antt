@@ -1,4 +1,4 @@
--- What a line that is taken adds to the draft, and the draft that lines taken one after the other give.
+-- What a line that is taken adds to the draft, and the draft that lines taken in turn give.
 use Prim.Native.Nat.{ℕ, suc, _<_, _≤_}
 use mathlib.Core.Path.{_≡_, refl}
 use mathlib.Core.Bool.{Bool, true, false}
@@ -9,10 +9,10 @@ use borrow.Author.Tests.{eqb-true, ltb-true, ltb-false, not-false}
 use Rattle.grammar.specs.Quoted.{ascii}
 use Rattle.grammar.specs.Rows.{word}
 use Rattle.grammar.specs.Opening.{Row}
-use Rattle.grammar.specs.Draft.{Draft, unjoined, noInput, unitNamed, outputNamed, inputNamed, known}
-use Rattle.grammar.specs.Draft.{addUnit, addOutput, addInput, addFeed, addJoin}
-use Rattle.grammar.specs.Lines.{Outcome, refuse, refused, taken, kindOf}
-use Rattle.grammar.specs.Lines.{unitLine, outLine, inLine, feedLine, joinLine, line}
+use Rattle.grammar.specs.Draft.{Draft, unjoined, noInput, unitNamed, outputNamed, inputNamed}
+use Rattle.grammar.specs.Draft.{known, addUnit, addOutput, addInput, addFeed, addJoin}
+use Rattle.grammar.specs.Lines.{Outcome, refuse, refused, taken, kindOf, unitLine}
+use Rattle.grammar.specs.Lines.{outLine, inLine, feedLine, joinLine, line}
 use Rattle.reading.specs.Keyword.{by-keyword}
 
 -- line k, with fields f, is taken and leaves this draft
@@ -42,19 +42,22 @@ pub data Takes (d : Draft) (k : ℕ) (f : Row) : Draft → Type 0 where
       → outputNamed d (unitNamed d (word f 1)) (word f 2) < length (d .outputs)
       → unitNamed d (word f 3) < length (d .units)
       → inputNamed d (unitNamed d (word f 3)) (word f 4) < length (d .inputs)
-      → getD (d .inputs) (inputNamed d (unitNamed d (word f 3)) (word f 4)) noInput .source ≡ unjoined
+      → getD (d .inputs) (inputNamed d (unitNamed d (word f 3)) (word f 4)) noInput .source
+      ≡ unjoined
       → Takes d k f (addJoin d (inputNamed d (unitNamed d (word f 3)) (word f 4))
       (outputNamed d (unitNamed d (word f 1)) (word f 2)))
 
 module _ (d : Draft) (k : ℕ) (f : Row) where
   -- not refused: the test did not pass, and what is left was taken
-  passed : (b : Bool) (n : ℕ) (o : Outcome) → 0 < n → (b ≡ false → o .number ≡ 0 → Takes d k f (o .draft))
+  passed : (b : Bool) (n : ℕ) (o : Outcome) → 0 < n
+      → (b ≡ false → o .number ≡ 0 → Takes d k f (o .draft))
       → refuse b n d o .number ≡ 0 → Takes d k f (refuse b n d o .draft)
   unfolding refuse refused
   passed true n o p h e = absurd (omega arith)
   passed false n o p h e = h refl e
 
-  unit-taken : word f 0 ≡ ascii "unit" → unitLine d f .number ≡ 0 → Takes d k f (unitLine d f .draft)
+  unit-taken : word f 0 ≡ ascii "unit" → unitLine d f .number ≡ 0
+      → Takes d k f (unitLine d f .draft)
   unfolding unitLine taken known
   unit-taken w =
       passed _ 24 _ (omega arith) λ a.
@@ -84,7 +87,8 @@ module _ (d : Draft) (k : ℕ) (f : Row) where
       passed _ 29 _ (omega arith) λ a z.
       takes-input w (ltb-true _ _ (not-false _ u)) (ltb-false _ _ n)
 
-  feed-taken : word f 0 ≡ ascii "feed" → feedLine d f .number ≡ 0 → Takes d k f (feedLine d f .draft)
+  feed-taken : word f 0 ≡ ascii "feed" → feedLine d f .number ≡ 0
+      → Takes d k f (feedLine d f .draft)
   unfolding feedLine taken known
   feed-taken w =
       passed _ 24 _ (omega arith) λ a.
@@ -97,7 +101,8 @@ module _ (d : Draft) (k : ℕ) (f : Row) where
       takes-feed w (ltb-true _ _ (not-false _ u)) (ltb-true _ _ (not-false _ x))
       (ltb-true _ _ (not-false _ y))
 
-  join-taken : word f 0 ≡ ascii "join" → joinLine d f .number ≡ 0 → Takes d k f (joinLine d f .draft)
+  join-taken : word f 0 ≡ ascii "join" → joinLine d f .number ≡ 0
+      → Takes d k f (joinLine d f .draft)
   unfolding joinLine taken known
   join-taken w =
       passed _ 24 _ (omega arith) λ a.

@@ -1,7 +1,7 @@
 -- What a contract must be, said of the contract itself as its callers read it.
---   Settles         nothing is asked of a caller, and one answer at most is permitted, with one content of all that was lent
+--   Settles         nothing is asked, one answer at most is permitted, with one content of all lent
 --   SettlesSeen     the same, of what is seen of a result: the bytes of a part that is handed back
---   SettlesClauses  the same in the program logic, of a contract over a lent slice of structs: it shows a plain fact,
+--   SettlesClauses  the same in the program logic, over a lent slice of structs: a fact is shown,
 --                   and that fact permits one answer
 --   Says            whatever the contract permits is so
 -- That an answer is given at all, and meets the contract, is what a proved function is.

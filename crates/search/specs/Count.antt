@@ -50,7 +50,8 @@ pub count-above : (q : ℕ → Bool) (c n : ℕ) → n ≤ c → count (add c q)
 count-above q c n h = count-same (add c q) q n (λ i l. add-other c q i (omega arith))
 
 -- a new member below n counts one more
-pub count-add : (q : ℕ → Bool) (c n : ℕ) → c < n → T (not (q c)) → count (add c q) n ≡ suc (count q n)
+pub count-add : (q : ℕ → Bool) (c n : ℕ) → c < n → T (not (q c))
+    → count (add c q) n ≡ suc (count q n)
 unfolding count bit
 count-add q c zero h t = absurd (omega arith)
 count-add q c (suc n) h t = elim (ℕ-discrete n c) [
@@ -60,7 +61,11 @@ count-add q c (suc n) h t = elim (ℕ-discrete n c) [
   where
     here : n ≡ c → count (add c q) (suc n) ≡ suc (count q (suc n))
     here e =
-        rw (is-true (add c q n) (rw e (add-self c q)), is-false (q n) (rw e t), count-above q c n (omega arith))
+        rw (
+          is-true (add c q n) (rw e (add-self c q)),
+          is-false (q n) (rw e t),
+          count-above q c n (omega arith),
+        )
         (omega arith)
 
 -- where the count is n, all below n pass
@@ -70,7 +75,8 @@ count-full q zero e i h = absurd (omega arith)
 count-full q (suc n) e i h = go (λ p l. count-full q n p i l) (q n) refl
   where
     go : (count q n ≡ n → i < n → T (q i)) → (b : Bool) → q n ≡ b → T (q i)
-    go ih false p = absurd (let z : 0 + count q n ≡ suc n = (rw p at e) in omega (arith, count-le q n))
+    go ih false p =
+        absurd (let z : 0 + count q n ≡ suc n = (rw p at e) in omega (arith, count-le q n))
     go ih true p = elim (ℕ-discrete i n) [
       | yes s ↦ rw (s, p) tt
       | no s ↦ ih (let z : 1 + count q n ≡ suc n = (rw p at e) in omega arith) (omega arith)

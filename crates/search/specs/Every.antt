@@ -49,7 +49,8 @@ some-yes q n i h t = rw (← every-no (λ k. not (q k)) n i h (twice (q i) t))
     twice true z = tt
     twice false z = z
 
-pub some-no : (q : ℕ → Bool) (n i : ℕ) → n ≤ i → ((k : ℕ) → k < i → T (not (q k))) → false ≡ some q n
+pub some-no : (q : ℕ → Bool) (n i : ℕ) → n ≤ i → ((k : ℕ) → k < i → T (not (q k)))
+    → false ≡ some q n
 unfolding some
 some-no q n i h b = rw (← every-yes (λ k. not (q k)) n i h b)
 
@@ -60,9 +61,11 @@ unfolding some every
 some-found q zero t = absurd t
 some-found q (suc n) t = go (q n) refl (λ s. some-found q n s)
   where
-    go : (b : Bool) → q n ≡ b → (T (some q n) → (i : ℕ) × (i < n) × T (q i)) → (i : ℕ) × (i < suc n) × T (q i)
+    go : (b : Bool) → q n ≡ b → (T (some q n) → (i : ℕ) × (i < n) × T (q i))
+        → (i : ℕ) × (i < suc n) × T (q i)
     go true e ih = (n, omega arith, rw e tt)
-    go false e ih = let (i, h, p) = ih (less (every (λ k. not (q k)) n) (rw e at t)) in (i, omega arith, p)
+    go false e ih =
+        let (i, h, p) = ih (less (every (λ k. not (q k)) n) (rw e at t)) in (i, omega arith, p)
       where
         less : (b : Bool) → T (not (b && true)) → T (not b)
         less true z = z

@@ -31,7 +31,8 @@ fronting-on whole rest out₀ out k c h w = record {
       (sym (drop-drop 1 k out) ∙ ap (drop 1) (w .kept) ∙ drop-drop 1 k out₀);
 }
 
-pub fronting-ends : (whole rest out₀ out : List ℕ) (k : ℕ) → Fronting whole rest out₀ out k → rest ≡ []
+pub fronting-ends : (whole rest out₀ out : List ℕ) (k : ℕ) → Fronting whole rest out₀ out k
+    → rest ≡ []
     → (k ≡ length whole) × (out ≡ fronted whole out₀)
 fronting-ends whole rest out₀ out k w e =
     let m : whole ≡ take k out = w .made ∙ ap (λ r. take k out ++ r) e ∙ append-nil (take k out) in

@@ -40,7 +40,8 @@ leastFrom-is q (suc n) k = go (q k) refl (leastFrom-is q n (suc k))
       low = omega (arith, ih .low);
       high = omega (arith, ih .high);
       passes = λ h. ih .passes (omega arith);
-      below = λ i a b. elim (ℕ-discrete i k) [ yes p ↦ rw (p, e) tt | no p ↦ ih .below i (omega arith) b ];
+      below = λ i a b. elim (ℕ-discrete i k)
+          [ yes p ↦ rw (p, e) tt | no p ↦ ih .below i (omega arith) b ];
     }
 
 -- r is the least below n that passes, or n where none does

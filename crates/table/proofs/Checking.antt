@@ -11,7 +11,8 @@ use borrow.Author.Tests.{lt-ltb, le-ltb, le-leb, lt-leb, eq-eqb, ne-eqb}
 use Rattle.search.specs.Every.{every-yes, every-no, some-yes, some-no}
 use Rattle.table.specs.declared.Answer.{Answer}
 use Rattle.table.specs.Packed.{units, outputs, inputs, feeds, asked, pairInput, pairOutput}
-use Rattle.table.specs.Check.{refuse, countsIn, allBelow, isPair, feedKnown, feedAgain, feedsFrom, refusal, checked}
+use Rattle.table.specs.Check.{refuse, countsIn, allBelow, isPair, feedKnown}
+use Rattle.table.specs.Check.{feedAgain, feedsFrom, refusal, checked}
 
 -- ---- the counts
 
@@ -67,7 +68,8 @@ module _ (ps : List ℕ) (j input output : ℕ) where
   unfolding isPair
   pair-half e = rw (eq-eqb (pairInput ps j) input e)
 
-module _ (outs ins ps : List ℕ) (k i o : ℕ) (ei : i ≡ pairInput ps k) (eo : o ≡ pairOutput ps k) where
+module _ (outs ins ps : List ℕ) (k i o : ℕ) (ei : i ≡ pairInput ps k)
+    (eo : o ≡ pairOutput ps k) where
   pub known-input : length ins ≤ i → false ≡ feedKnown outs ins ps k
   unfolding feedKnown
   known-input h = rw (← ei, le-ltb i (length ins) h)
@@ -133,7 +135,8 @@ pub held : {r s : Bool} {b bound : ℕ} {bytes part : List ℕ} → r ≡ allBel
 held {r} {s} {b} {bound} {bytes} {part} e p q f = rw (← p, ← q) (sym e ∙ f)
 
 -- as many bytes as pairs ask
-pub pairs-room : (f n : ℕ) (ps qs : List ℕ) → ps ≡ qs → length qs ≡ 2 * n → f ≡ n → 2 * f ≤ length ps
+pub pairs-room : (f n : ℕ) (ps qs : List ℕ) → ps ≡ qs → length qs ≡ 2 * n → f ≡ n
+    → 2 * f ≤ length ps
 pairs-room f n ps qs p l e = rw (p, l, e) (omega arith)
 
 -- the feeds, from the code's lists to the table's
@@ -142,9 +145,11 @@ pub feeds-same : {r f g : ℕ} {o i p os is ps : List ℕ} → r ≡ feedsFrom o
 feeds-same {r} {f} {g} {o} {i} {p} {os} {is} {ps} e eo ei ep ef = rw (← eo, ← ei, ← ep, ← ef) e
 
 -- the counts, from the code's numbers to the table's
-pub counts-same : {r s : Bool} {u y x f a b c d : ℕ} → r ≡ countsIn u y x f → u ≡ a → y ≡ b → x ≡ c → f ≡ d
+pub counts-same : {r s : Bool} {u y x f a b c d : ℕ} → r ≡ countsIn u y x f → u ≡ a → y ≡ b → x ≡ c
+    → f ≡ d
     → r ≡ s → countsIn a b c d ≡ s
-counts-same {r} {s} {u} {y} {x} {f} {a} {b} {c} {d} e p q v w z = rw (← p, ← q, ← v, ← w) (sym e ∙ z)
+counts-same {r} {s} {u} {y} {x} {f} {a} {b} {c} {d} e p q v w z =
+    rw (← p, ← q, ← v, ← w) (sym e ∙ z)
 
 -- the length that the code's counts ask
 pub asked-same : (t : List ℕ) (y x f : ℕ) → y ≡ outputs t → x ≡ inputs t → f ≡ feeds t

@@ -1,4 +1,4 @@
--- The contracts of the public functions, as callers read them: nothing is asked, one answer is permitted, with every lent byte.
+-- Each public function's contract asks nothing and permits one answer, with every lent byte.
 use mathlib.Core.Path.{sym, refl, _∙_}
 use denote.Ref.{now}
 use Rattle.search.specs.Contracts.{Settles, SettlesSeen}
@@ -35,35 +35,46 @@ check-settled = ((λ κs a. tt), (λ κs a x y w v p q. (p ∙ sym q, refl)))
 pub byte-settled : Settles byte.ps byte.r byte-says.Asked byte-says.Learnt
 byte-settled = ((λ κs a. tt), (λ κs a x y w v p q. (p .0 ∙ sym (q .0), refl)))
 
-pub stretch-settled : SettlesSeen stretch.ps stretch.r stretch-says.Asked stretch-says.Learnt (λ κs r. now r)
+pub stretch-settled : SettlesSeen stretch.ps stretch.r stretch-says.Asked stretch-says.Learnt
+    (λ κs r. now r)
 stretch-settled = ((λ κs a. tt), (λ κs a x y w v p q. (p ∙ sym q, refl)))
 
-pub unit-count-settled : Settles unit-count.ps unit-count.r unit-count-says.Asked unit-count-says.Learnt
+pub unit-count-settled : Settles unit-count.ps unit-count.r unit-count-says.Asked
+    unit-count-says.Learnt
 unit-count-settled = ((λ κs a. tt), (λ κs a x y w v p q. (p .0 ∙ sym (q .0), refl)))
 
-pub output-count-settled : Settles output-count.ps output-count.r output-count-says.Asked output-count-says.Learnt
+pub output-count-settled : Settles output-count.ps output-count.r output-count-says.Asked
+    output-count-says.Learnt
 output-count-settled = ((λ κs a. tt), (λ κs a x y w v p q. (p .0 ∙ sym (q .0), refl)))
 
-pub input-count-settled : Settles input-count.ps input-count.r input-count-says.Asked input-count-says.Learnt
+pub input-count-settled : Settles input-count.ps input-count.r input-count-says.Asked
+    input-count-says.Learnt
 input-count-settled = ((λ κs a. tt), (λ κs a x y w v p q. (p .0 ∙ sym (q .0), refl)))
 
-pub feed-count-settled : Settles feed-count.ps feed-count.r feed-count-says.Asked feed-count-says.Learnt
+pub feed-count-settled : Settles feed-count.ps feed-count.r feed-count-says.Asked
+    feed-count-says.Learnt
 feed-count-settled = ((λ κs a. tt), (λ κs a x y w v p q. (p .0 ∙ sym (q .0), refl)))
 
-pub call-count-settled : Settles call-count.ps call-count.r call-count-says.Asked call-count-says.Learnt
+pub call-count-settled : Settles call-count.ps call-count.r call-count-says.Asked
+    call-count-says.Learnt
 call-count-settled = ((λ κs a. tt), (λ κs a x y w v p q. (p ∙ sym q, refl)))
 
-pub output-owners-settled : SettlesSeen output-owners.ps output-owners.r output-owners-says.Asked output-owners-says.Learnt (λ κs r. now r)
+pub output-owners-settled : SettlesSeen output-owners.ps output-owners.r output-owners-says.Asked
+    output-owners-says.Learnt (λ κs r. now r)
 output-owners-settled = ((λ κs a. tt), (λ κs a x y w v p q. (p ∙ sym q, refl)))
 
-pub input-owners-settled : SettlesSeen input-owners.ps input-owners.r input-owners-says.Asked input-owners-says.Learnt (λ κs r. now r)
+pub input-owners-settled : SettlesSeen input-owners.ps input-owners.r input-owners-says.Asked
+    input-owners-says.Learnt (λ κs r. now r)
 input-owners-settled = ((λ κs a. tt), (λ κs a x y w v p q. (p ∙ sym q, refl)))
 
-pub input-kinds-settled : SettlesSeen input-kinds.ps input-kinds.r input-kinds-says.Asked input-kinds-says.Learnt (λ κs r. now r)
+pub input-kinds-settled : SettlesSeen input-kinds.ps input-kinds.r input-kinds-says.Asked
+    input-kinds-says.Learnt (λ κs r. now r)
 input-kinds-settled = ((λ κs a. tt), (λ κs a x y w v p q. (p ∙ sym q, refl)))
 
-pub input-sources-settled : SettlesSeen input-sources.ps input-sources.r input-sources-says.Asked input-sources-says.Learnt (λ κs r. now r)
+pub input-sources-settled : SettlesSeen input-sources.ps input-sources.r input-sources-says.Asked
+    input-sources-says.Learnt (λ κs r. now r)
 input-sources-settled = ((λ κs a. tt), (λ κs a x y w v p q. (p ∙ sym q, refl)))
 
-pub feed-pairs-settled : SettlesSeen feed-pairs.ps feed-pairs.r feed-pairs-says.Asked feed-pairs-says.Learnt (λ κs r. now r)
+pub feed-pairs-settled : SettlesSeen feed-pairs.ps feed-pairs.r feed-pairs-says.Asked
+    feed-pairs-says.Learnt (λ κs r. now r)
 feed-pairs-settled = ((λ κs a. tt), (λ κs a x y w v p q. (p ∙ sym q, refl)))

@@ -106,7 +106,8 @@ fn feed_again(pairs: &[u8], k: usize) -> bool
 // The feeds, pair by pair: 6, 7 or 0.
 fn feeds_refusal(outs: &[u8], ins: &[u8], pairs: &[u8], f: usize) -> u8
     requires { ⌜ 2 * f ≤ length (now pairs) ⌝ }
-    ensures { λ r. ⌜ r ≡ feedsFrom (now (outs .entry)) (now (ins .entry)) (now (pairs .entry)) f 0 ⌝ }
+    ensures { λ r.
+        ⌜ r ≡ feedsFrom (now (outs .entry)) (now (ins .entry)) (now (pairs .entry)) f 0 ⌝ }
 {
     let mut k = 0;
     while k < f {

@@ -22,7 +22,7 @@ abbrev pub sum : List ℤ → ℤ
 sum [] = pos 0
 sum (v ∷ vs) = v +ℤ sum vs
 
--- a unit adds its inputs to its state; an output shows its unit's state and the inputs that feed it, added
+-- a unit adds its inputs to its state; an output adds its unit's state and the inputs that feed it
 abbrev pub adding : Rules ℤ ℤ
 adding = record {
   stepRule = λ u state inputs. state +ℤ sum inputs;
@@ -77,4 +77,5 @@ both P p q (suc (suc k)) h = absurd (omega arith)
 -- they solve the equations
 pub solution : Solves (shapeOf A) adding old new
 unfolding words
-solution = record { states = both _ refl refl; outputs = both _ refl refl; inputs = both _ refl refl }
+solution =
+    record { states = both _ refl refl; outputs = both _ refl refl; inputs = both _ refl refl }

@@ -1,5 +1,5 @@
 -- Demand 3: every order whose verdict is a pass ends at the one solution of the table's equations.
--- No proof needs joined ports to be equal at the start, so it is no premise here: they are equal at the end whatever was.
+-- No proof needs joined ports equal at the start, so it is no premise; they are equal at the end.
 use mathlib.Core.Path.{_≡_, sym, ap, ap₂, _∙_}
 use mathlib.Core.List.{List}
 use Prim.Native.Nat.{ℕ, suc, _<_}
@@ -47,16 +47,19 @@ module _ {State Value : Type 0} (t : List ℕ) (m : Rules State Value) where
   run-solves order p w = solves (shapeOf t) m (wired order p) w order (passed-iff t order .0 p .1)
 
   -- the solution is single: whatever solves them is the run's end at every unit and port
-  pub run-single : (order : List ℕ) → Passed t order → (w : World State Value) (new : Values State Value)
+  pub run-single : (order : List ℕ) → Passed t order
+      → (w : World State Value) (new : Values State Value)
       → Solves (shapeOf t) m (values w) new → (a : ℕ) → a < total (shapeOf t)
       → values (end w order) (callOf (shapeOf t) a) ≡ new (callOf (shapeOf t) a)
   run-single order p w = single (shapeOf t) m (wired order p) w order (passed-iff t order .0 p .1)
 
   -- started with everything at one time, it ends with every unit and port one step later
-  pub run-later : (order : List ℕ) → Passed t order → (w : World State Value) (n : ℕ) → AtTime (shapeOf t) n w
+  pub run-later : (order : List ℕ) → Passed t order → (w : World State Value) (n : ℕ)
+      → AtTime (shapeOf t) n w
       → AtTime (shapeOf t) (suc n) (end w order)
   run-later order p w n start a h =
-      later (shapeOf t) m (wired order p) w order (passed-iff t order .0 p .1) a h ∙ ap suc (start a h)
+      later (shapeOf t) m (wired order p) w order (passed-iff t order .0 p .1) a h
+      ∙ ap suc (start a h)
 
   -- each unit and port is moved exactly once: its call has one place in the order
   pub moved-once : (order : List ℕ) → Passed t order → (a : ℕ) → a < total (shapeOf t)
@@ -68,7 +71,8 @@ module _ {State Value : Type 0} (t : List ℕ) (m : Rules State Value) where
       (i, hi, e, λ j hj q. k .once j i hj hi (q ∙ sym e))
 
   -- joined ports are equal at the end, in value and in time
-  pub run-joined : (order : List ℕ) → Passed t order → (w : World State Value) (n : ℕ) → AtTime (shapeOf t) n w
+  pub run-joined : (order : List ℕ) → Passed t order → (w : World State Value) (n : ℕ)
+      → AtTime (shapeOf t) n w
       → Joined (shapeOf t) (end w order)
   run-joined order p w n start x h =
       let s = shapeOf t in
@@ -82,8 +86,10 @@ module _ {State Value : Type 0} (t : List ℕ) (m : Rules State Value) where
       (run-solves order p w .inputs x h) (later-x ∙ sym later-y)
 
   -- two passed orders end alike
-  pub runs-alike : (order other : List ℕ) → Passed t order → Passed t other → (w : World State Value) (a : ℕ)
-      → a < total (shapeOf t) → end w order (callOf (shapeOf t) a) ≡ end w other (callOf (shapeOf t) a)
+  pub runs-alike : (order other : List ℕ) → Passed t order → Passed t other
+      → (w : World State Value) (a : ℕ)
+      → a < total (shapeOf t)
+      → end w order (callOf (shapeOf t) a) ≡ end w other (callOf (shapeOf t) a)
   runs-alike order other p q w a h =
       same-held (end w order (callOf (shapeOf t) a)) (end w other (callOf (shapeOf t) a))
       (run-single order p w (values (end w other)) (run-solves other q w) a h)

@@ -1,5 +1,5 @@
 -- The equations of a table, from old values to new ones: SPECIFICATION, Equations 3.
--- That joined ports are equal at the start is `Joined` of the start: it is no equation, and no proof needs it.
+-- Joined ports equal at the start is `Joined` of the start: no equation, and no proof needs it.
 use mathlib.Core.Path.{_≡_}
 use mathlib.Core.Bool.{cond}
 use Prim.Native.Nat.{ℕ, _<_}
@@ -12,7 +12,7 @@ use Rattle.twin.specs.Run.{Values, World}
 
 module _ {State Value : Type 0} (s : Shape) (m : Rules State Value) where
   pub record Solves (old new : Values State Value) : Type 0 where
-    -- a state comes from the old one and the unit's inputs, of which the delayed are old and the reactive new
+    -- a state comes from the old one and the unit's inputs, delayed ones old and reactive ones new
     pub states : (u : ℕ) → u < s .units
         → new (Step u)
         ≡ m .stepRule u (old (Step u)) (ofUnit s u (λ x. cond (eqb (s .kind x) 0) (old (Set x)) (new (Set x))))

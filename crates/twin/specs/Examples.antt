@@ -1,4 +1,4 @@
--- Demand 3 is not empty: on table A the order that `Computed` runs is passed, and refused orders end elsewhere.
+-- Demand 3 is not empty: on table A what `Computed` runs is passed; refused orders end elsewhere.
 use mathlib.Core.Path.{_≡_, refl, ap}
 use mathlib.Core.List.{List, [], _∷_}
 use Prim.Native.Nat.{ℕ}

@@ -11,7 +11,8 @@ use Rattle.judging.specs.Verdict.{verdictOf}
 use Rattle.twin.specs.Rules.{Rules}
 use Rattle.twin.specs.Run.{Values, World, run}
 use Rattle.twin.specs.Equations.{Solves, AtTime, Joined}
-use Rattle.twin.specs.Demand.{values, run-solves, run-single, run-later, moved-once as one-place, run-joined, runs-alike}
+use Rattle.twin.specs.Demand.{values, run-solves, run-single, run-later}
+use Rattle.twin.specs.Demand.{moved-once as one-place, run-joined, runs-alike}
 
 -- how the run of an order ends that was started at time n
 pub record Ends (t : List ℕ) (m : Rules ℤ ℤ) (order : List ℕ) (w : World ℤ ℤ) (n : ℕ) : Type 0 where
@@ -29,8 +30,9 @@ pub record Ends (t : List ℕ) (m : Rules ℤ ℤ) (order : List ℕ) (w : World
   pub single : (new : Values ℤ ℤ) → Solves (shapeOf t) m (values w) new → (a : ℕ) → a < total (shapeOf t)
       → values (run (shapeOf t) m w order) (callOf (shapeOf t) a) ≡ new (callOf (shapeOf t) a)
 
--- every passed order, for any models, from anything held at one time; joined ports need not be equal then
-pub demand-3 : (t order : List ℕ) → verdictOf t order .number ≡ 0 → (m : Rules ℤ ℤ) (w : World ℤ ℤ) (n : ℕ)
+-- every passed order, any models, from anything held at one time; joined ports may differ then
+pub demand-3 : (t order : List ℕ) → verdictOf t order .number ≡ 0
+    → (m : Rules ℤ ℤ) (w : World ℤ ℤ) (n : ℕ)
     → AtTime (shapeOf t) n w → Ends t m order w n
 demand-3 t order p m w n start = record {
   one-later = run-later t m order p w n start;
@@ -41,7 +43,9 @@ demand-3 t order p m w n start = record {
 }
 
 -- two passed orders end alike, in value and time
-pub demand-3-alike : (t order other : List ℕ) → verdictOf t order .number ≡ 0 → verdictOf t other .number ≡ 0
+pub demand-3-alike : (t order other : List ℕ) → verdictOf t order .number ≡ 0
+    → verdictOf t other .number ≡ 0
     → (m : Rules ℤ ℤ) (w : World ℤ ℤ) (a : ℕ) → a < total (shapeOf t)
-    → run (shapeOf t) m w order (callOf (shapeOf t) a) ≡ run (shapeOf t) m w other (callOf (shapeOf t) a)
+    → run (shapeOf t) m w order (callOf (shapeOf t) a)
+    ≡ run (shapeOf t) m w other (callOf (shapeOf t) a)
 demand-3-alike t order other p q m = runs-alike t m order other p q

@@ -12,7 +12,8 @@ use Rattle.table.specs.Shape.{Shape, total, Wired}
 use Rattle.calls.specs.declared.Call.{Call}
 use Rattle.calls.specs.declared.Call.the-variants.{Step, Get, Set, NoCall}
 use Rattle.calls.specs.Number.{callOf, getNo, setNo}
-use Rattle.calls.specs.Numbers.{is-step, is-get, is-set, is-none, View, at-step, at-get, at-set, view}
+use Rattle.calls.specs.Numbers.{is-step, is-get, is-set, is-none}
+use Rattle.calls.specs.Numbers.{View, at-step, at-get, at-set, view}
 use Rattle.calls.specs.Precedence.{feedsTo, byKind}
 use Rattle.calls.specs.Neighbours.{feeds-found}
 use Rattle.judging.specs.Passes.{Allows, Meets}
@@ -86,22 +87,28 @@ module _ {State Value : Type 0} (s : Shape) (m : Rules State Value) where
   next w c = acts s m w (callOf s c)
 
   pub next-self : (w : World State Value) (c : ℕ) → c < total s
-      → next w c (callOf s c) ≡ record { value = gives s m w (callOf s c); time = suc (w (callOf s c) .time) }
+      → next w c (callOf s c)
+      ≡ record { value = gives s m w (callOf s c); time = suc (w (callOf s c) .time) }
   next-self w c h = rw (moves-own s c h)
 
-  pub next-other : (w : World State Value) (c a : ℕ) → a ≢ c → next w c (callOf s a) ≡ w (callOf s a)
+  pub next-other : (w : World State Value) (c a : ℕ) → a ≢ c
+      → next w c (callOf s a) ≡ w (callOf s a)
   next-other w c a ne = rw (moves-other s c a ne)
 
   -- the calls of a set hold the new values, the others the old ones
-  pub record Midway (done : ℕ → Bool) (old new : Values State Value) (w : World State Value) : Type 0 where
+  pub record Midway (done : ℕ → Bool) (old new : Values State Value)
+      (w : World State Value) : Type 0 where
     pub moved : (a : ℕ) → a < total s → T (done a) → w (callOf s a) .value ≡ new (callOf s a)
     pub waits : (a : ℕ) → a < total s → T (not (done a)) → w (callOf s a) .value ≡ old (callOf s a)
 
   -- the equation of one call
-  abbrev pub Holds : Values State Value → Values State Value → (k : Call) → At State Value k → Type 0
+  abbrev pub Holds : Values State Value → Values State Value → (k : Call) → At State Value k
+      → Type 0
   Holds old new (Step u) v =
-      v ≡ m .stepRule u (old (Step u)) (ofUnit s u (λ x. cond (eqb (s .kind x) 0) (old (Set x)) (new (Set x))))
-  Holds old new (Get y) v = v ≡ m .outputRule y (new (Step (s .outputOwner y))) (feeding s y (λ x. new (Set x)))
+      v ≡ m .stepRule u (old (Step u))
+      (ofUnit s u (λ x. cond (eqb (s .kind x) 0) (old (Set x)) (new (Set x))))
+  Holds old new (Get y) v =
+      v ≡ m .outputRule y (new (Step (s .outputOwner y))) (feeding s y (λ x. new (Set x)))
   Holds old new (Set x) v = v ≡ new (Get (s .source x))
   Holds old new NoCall v = Unit {0}
 
@@ -114,7 +121,8 @@ module _ {State Value : Type 0} (s : Shape) (m : Rules State Value) where
       go (at-get y h e) = rw (e, is-get s y h) (sv .outputs y h)
       go (at-set x h e) = rw (e, is-set s x h) (sv .inputs x h)
 
-  pub holds-one : (old new : Values State Value) (k : Call) (v v′ : At State Value k) → Holds old new k v
+  pub holds-one : (old new : Values State Value) (k : Call) (v v′ : At State Value k)
+      → Holds old new k v
       → Holds old new k v′ → v ≡ v′
   holds-one old new (Step u) v v′ p p′ = p ∙ sym p′
   holds-one old new (Get y) v v′ p p′ = p ∙ sym p′
@@ -127,7 +135,7 @@ module _ {State Value : Type 0} (s : Shape) (m : Rules State Value) where
     set-new : (x : ℕ) → x < s .inputs → T (done (setNo s x)) → w (Set x) .value ≡ new (Set x)
     set-new x h t = (rw (is-set s x h) at (mid .moved (setNo s x) (omega arith) t))
 
-    -- an input of a unit that may step stands as the equation reads it: delayed ones old, reactive ones new
+    -- an input of a unit that may step stands as the equation reads it: delayed old, reactive new
     stands : (u : ℕ) → Allows s done (Step u) → (x : ℕ) → x < s .inputs → s .inputOwner x ≡ u
         → w (Set x) .value ≡ cond (eqb (s .kind x) 0) (old (Set x)) (new (Set x))
     stands u (early, late) x h o = elim (ℕ-discrete (s .kind x) 0) [
@@ -140,7 +148,8 @@ module _ {State Value : Type 0} (s : Shape) (m : Rules State Value) where
     ]
 
     -- a call whose conditions hold gives what its equation asks
-    pub gives-holds : (c : ℕ) → Meets s done c → Holds old new (callOf s c) (gives s m w (callOf s c))
+    pub gives-holds : (c : ℕ) → Meets s done c
+        → Holds old new (callOf s c) (gives s m w (callOf s c))
     gives-holds c (nd, al) = go (view s c (meets-call s done c (nd, al)))
       where
         go : View s c → Holds old new (callOf s c) (gives s m w (callOf s c))
@@ -155,11 +164,13 @@ module _ {State Value : Type 0} (s : Shape) (m : Rules State Value) where
             let hu = ok .output-owned y h in
             rw (e, is-get s y h)
             (ap₂ (m .outputRule y)
-            (rw (is-step s (s .outputOwner y) hu) at (mid .moved (s .outputOwner y) (omega arith) (q .0)))
+            (rw (is-step s (s .outputOwner y) hu) at
+            (mid .moved (s .outputOwner y) (omega arith) (q .0)))
             (pick-same _ (s .inputs) 0 _ _ (λ x p r t. set-new x (omega arith) (fed x t (q .1)))))
           where
             fed : (x : ℕ) → T (feedsTo s x y)
-                → ((k : ℕ) → k < s .feeds → s .feedOutput k ≡ y → T (done (setNo s (s .feedInput k))))
+                → ((k : ℕ) → k < s .feeds → s .feedOutput k ≡ y
+                → T (done (setNo s (s .feedInput k))))
                 → T (done (setNo s x))
             fed x t q = let (k, hk, i, o) = feeds-found s x y t in rw (← i) (q k hk o)
         go (at-set x h e) =

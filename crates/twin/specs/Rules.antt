@@ -1,4 +1,4 @@
--- The rules of models, any functions of a state and of the values they may see: SPECIFICATION, Equations 2.
+-- The rules of models, any functions of a state and the values seen: SPECIFICATION, Equations 2.
 use mathlib.Core.Bool.{Bool, cond}
 use mathlib.Core.List.{List, [], _∷_}
 use Prim.Native.Nat.{ℕ, zero, suc}

@@ -18,7 +18,8 @@ use Rattle.judging.specs.Judged.{passes-head, passes-tail}
 use Rattle.twin.specs.Rules.{Rules}
 use Rattle.twin.specs.Run.{Values, World, gives, run}
 use Rattle.twin.specs.Equations.{Solves}
-use Rattle.twin.specs.Midway.{Midway, Holds, next, next-self, next-other, solves→holds, holds-one, gives-holds}
+use Rattle.twin.specs.Midway.{Midway, Holds, next, next-self, next-other}
+use Rattle.twin.specs.Midway.{solves→holds, holds-one, gives-holds}
 
 module _ {State Value : Type 0} (s : Shape) (m : Rules State Value) (ok : Wired s) where
   apart : (done : ℕ → Bool) (c a : ℕ) → T (not (done c)) → T (done a) → a ≢ c
@@ -36,7 +37,8 @@ module _ {State Value : Type 0} (s : Shape) (m : Rules State Value) (ok : Wired 
 
   -- ---- the solution is single: a run is midway to every solution, and ends there
 
-  midway-on : (done : ℕ → Bool) (old new : Values State Value) (w : World State Value) (c : ℕ) → c < total s
+  midway-on : (done : ℕ → Bool) (old new : Values State Value) (w : World State Value) (c : ℕ)
+      → c < total s
       → gives s m w (callOf s c) ≡ new (callOf s c) → Midway s m done old new w
       → Midway s m (add c done) old new (next s m w c)
   midway-on done old new w c hc e mid = record {
@@ -69,7 +71,8 @@ module _ {State Value : Type 0} (s : Shape) (m : Rules State Value) (ok : Wired 
   abbrev end : World State Value → List ℕ → Values State Value
   end w l k = run s m w l k .value
 
-  head-holds : (done : ℕ → Bool) (old : Values State Value) (w : World State Value) (c : ℕ) (l : List ℕ)
+  head-holds : (done : ℕ → Bool) (old : Values State Value) (w : World State Value) (c : ℕ)
+      (l : List ℕ)
       → Passes s done (c ∷ l)
       → ((a : ℕ) → a < total s → T (not (done a)) → w (callOf s a) .value ≡ old (callOf s a))
       → Holds s m old (end (next s m w c) l) (callOf s c) (end (next s m w c) l (callOf s c))
@@ -85,11 +88,13 @@ module _ {State Value : Type 0} (s : Shape) (m : Rules State Value) (ok : Wired 
         waits = y;
       } in
       let e : end (next s m w c) l (callOf s c) ≡ gives s m w (callOf s c) =
-      ap (λ v. v .value) (run-keeps (add c done) l (next s m w c) r c (add-self c done) ∙ next-self s m w c hc) in
+      ap (λ v. v .value) (run-keeps (add c done) l (next s m w c) r c (add-self c done)
+      ∙ next-self s m w c hc) in
       subst (λ v. Holds s m old (end (next s m w c) l) (callOf s c) v) (sym e)
       (gives-holds s m ok done old (end (next s m w c) l) w mid c me)
 
-  run-holds : (done : ℕ → Bool) (old : Values State Value) (l : List ℕ) (w : World State Value) → Passes s done l
+  run-holds : (done : ℕ → Bool) (old : Values State Value) (l : List ℕ) (w : World State Value)
+      → Passes s done l
       → ((a : ℕ) → a < total s → T (not (done a)) → w (callOf s a) .value ≡ old (callOf s a))
       → (a : ℕ) → a < total s → T (not (done a))
       → Holds s m old (end w l) (callOf s a) (end w l (callOf s a))
@@ -106,7 +111,8 @@ module _ {State Value : Type 0} (s : Shape) (m : Rules State Value) (ok : Wired 
 
   -- ---- each unit and port is moved one step, once
 
-  run-times : (done : ℕ → Bool) (l : List ℕ) (w : World State Value) → Passes s done l → (a : ℕ) → a < total s
+  run-times : (done : ℕ → Bool) (l : List ℕ) (w : World State Value) → Passes s done l → (a : ℕ)
+      → a < total s
       → T (not (done a)) → run s m w l (callOf s a) .time ≡ suc (w (callOf s a) .time)
   unfolding run
   run-times done [] w p a h n = absurd (clash (done a) (p .whole a h) n)
@@ -116,7 +122,8 @@ module _ {State Value : Type 0} (s : Shape) (m : Rules State Value) (ok : Wired 
       elim (ℕ-discrete a c) [
         | yes z ↦
             rw z
-            (ap (λ v. v .time) (run-keeps (add c done) l (next s m w c) r c (add-self c done) ∙ next-self s m w c hc))
+            (ap (λ v. v .time) (run-keeps (add c done) l (next s m w c) r c (add-self c done)
+            ∙ next-self s m w c hc))
         | no z ↦
             run-times (add c done) l (next s m w c) r a h (not-add c done a z n)
             ∙ ap (λ v. suc (v .time)) (next-other s m w c a z)

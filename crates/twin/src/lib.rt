@@ -1,1 +1,1 @@
-// Theory alone: rules of models, the run of a list of calls, the equations, and that passed orders solve them.
+// Theory alone: rules of models, the run of calls, the equations, that passed orders solve them.

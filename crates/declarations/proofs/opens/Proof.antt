@@ -21,25 +21,18 @@ cast-to c = search needs
 
 sub-same : tie.Need-sub-same
 sub-same c =
-    omega (
-      arith,
-      first-part (c .before .before .before .before .pre .0) (c .before .before .before .before .pre .1) .order,
-    )
+    let pre = c.before.before.before.before.pre in
+    omega (arith, first-part pre.0 pre.1 .order)
 
 part-same-start : tie.Need-part-same-start
 part-same-start c =
-    omega (
-      arith,
-      first-part (c .before .before .before .before .pre .0) (c .before .before .before .before .pre .1) .order,
-    )
+    let pre = c.before.before.before.before.pre in
+    omega (arith, first-part pre.0 pre.1 .order)
 
 part-same-end : tie.Need-part-same-end
 part-same-end c =
-    omega (
-      arith,
-      first-part (c .before .before .before .before .pre .0) (c .before .before .before .before .pre .1) .order,
-      first-part (c .before .before .before .before .pre .0) (c .before .before .before .before .pre .1) .within,
-    )
+    let pre = c.before.before.before.before.pre in
+    omega (arith, first-part pre.0 pre.1 .order, first-part pre.0 pre.1 .within)
 
 same-requires : tie.Need-same-requires
 same-requires c κs = search needs
@@ -47,9 +40,8 @@ same-requires c κs = search needs
 returns : tie.Need-returns
 unfolding stretch
 returns c =
-    rw
-    (← first-part (c .before .before .before .before .before .before .pre .0)
-    (c .before .before .before .before .before .before .pre .1) .bytes) (c .same .ensures)
+    let pre = c.before.before.before.before.before.before.pre in
+    rw (← first-part pre.0 pre.1 .bytes) c.same.ensures
 
 pub opens-spec : {M : Type 1} → statement M
 opens-spec =

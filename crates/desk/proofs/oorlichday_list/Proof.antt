@@ -16,7 +16,7 @@ same-length : tie.Need-same-length
 same-length c = search needs
 
 returns : tie.Need-returns
-returns c = (ap told (c .before .before .list .ensures .0), c .before .before .list .ensures .1)
+returns c = (ap told c.before.before.list.ensures.0, c.before.before.list.ensures.1)
 
 pub oorlichday-list-spec : {M : Type 1} → statement M
 oorlichday-list-spec = tie.close (tie.spec list-requires same-length returns)

@@ -7,7 +7,7 @@ precedes-requires : tie.Need-precedes-requires
 precedes-requires c κs = search needs
 
 returns : tie.Need-returns
-returns c = c .precedes .ensures
+returns c = c.precedes.ensures
 
 pub oorlichday-precedes-spec : {M : Type 1} → statement M
 oorlichday-precedes-spec = tie.close (tie.spec precedes-requires returns)

@@ -16,7 +16,7 @@ same-length : tie.Need-same-length
 same-length c = search needs
 
 returns : tie.Need-returns
-returns c = (ap told (c .before .before .read .ensures .0), c .before .before .read .ensures .1)
+returns c = (ap told c.before.before.read.ensures.0, c.before.before.read.ensures.1)
 
 pub oorlichday-read-spec : {M : Type 1} → statement M
 oorlichday-read-spec = tie.close (tie.spec read-requires same-length returns)

@@ -7,7 +7,7 @@ take-requires : tie.Need-take-requires
 take-requires c κs = search needs
 
 returns : tie.Need-returns
-returns c = c .take .ensures
+returns c = c.take.ensures
 
 pub oorlichday-take-spec : {M : Type 1} → statement M
 oorlichday-take-spec = tie.close (tie.spec take-requires returns)

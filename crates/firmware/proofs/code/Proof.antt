@@ -1,3 +1,4 @@
+-- A place is at most 224, so 256 times the number plus the place fits.
 use borrow.Author.Needs.{needs}
 use Rattle.firmware.proofs.code.Statement.{statement}
 use Rattle.firmware.proofs.code.Tie as tie

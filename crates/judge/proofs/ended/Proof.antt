@@ -8,10 +8,10 @@ call-count-requires : tie.Need-call-count-requires
 call-count-requires c κs = search needs
 
 returns : tie.Need-returns
-returns c = end-short _ _ _ (c .before .call-count .ensures) (c .if1 .taken)
+returns c = end-short _ _ _ c.before.call-count.ensures c.if1.taken
 
 returns-2 : tie.Need-returns-2
-returns-2 c = end-passed _ _ _ (c .before .call-count .ensures) (c .if1 .left)
+returns-2 c = end-passed _ _ _ c.before.call-count.ensures c.if1.left
 
 pub ended-spec : {M : Type 1} → statement M
 ended-spec = tie.close (tie.spec call-count-requires returns returns-2)

@@ -17,10 +17,12 @@ enum-known-input c = search needs
 
 array-share-prefix-text : tie.Need-array-share-prefix-text
 array-share-prefix-text c =
-    omega (arith, (rw (c .before .input .given .1) at (c .before .before .before .before .read-input .ensures)))
+    let input = c.before.input in
+    let read-input = c.before.before.before.before.read-input in
+    omega (arith, (rw input.given.1 at read-input.ensures))
 
 slice-aggregate-print : tie.Need-slice-aggregate-print
-slice-aggregate-print c = sym (length-take-le _ _ (array-share-prefix-text (c .before)))
+slice-aggregate-print c = sym (length-take-le _ _ (array-share-prefix-text c.before))
 
 print-requires : tie.Need-print-requires
 print-requires c κs = search needs

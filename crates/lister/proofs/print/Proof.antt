@@ -15,14 +15,16 @@ list-requires c κs = search needs
 
 returns : tie.Need-returns
 returns c =
-    absurd (c .if1 .taken (list-fits _ _ _ (c .before .before .before .list .ensures .0) (search needs) .0))
+    let list = c.before.before.before.list in
+    absurd (c.if1.taken (list-fits _ _ _ list.ensures.0 (search needs) .0))
 
 array-share-prefix-out : tie.Need-array-share-prefix-out
 array-share-prefix-out c =
-    omega (arith, list-fits _ _ _ (c .before .before .before .list .ensures .0) (search needs) .2)
+    let list = c.before.before.before.list in
+    omega (arith, list-fits _ _ _ list.ensures.0 (search needs) .2)
 
 slice-aggregate-write-all : tie.Need-slice-aggregate-write-all
-slice-aggregate-write-all c = sym (length-take-le _ _ (array-share-prefix-out (c .before)))
+slice-aggregate-write-all c = sym (length-take-le _ _ (array-share-prefix-out c.before))
 
 write-all-requires : tie.Need-write-all-requires
 write-all-requires c κs = search needs

@@ -18,9 +18,10 @@ same-length c = search needs
 
 returns : tie.Need-returns
 returns c =
-    rw
-    (← list-refused _ _ _ _ (c .before .before .before .before .before .before .before .read .ensures)
-    (c .before .before .before .before .if1 .taken)) (c .before .before .put-refusal .ensures)
+    let put-refusal = c.before.before.put-refusal in
+    let if1 = c.before.before.before.before.if1 in
+    let read = c.before.before.before.before.before.before.before.read in
+    rw (← list-refused _ _ _ _ read.ensures if1.taken) put-refusal.ensures
 
 slice-aggregate-stretch : tie.Need-slice-aggregate-stretch
 slice-aggregate-stretch c = search needs
@@ -45,14 +46,15 @@ same-length-2 c = search needs
 
 returns-2 : tie.Need-returns-2
 returns-2 c =
+    let put-outcome = c.before.before.put-outcome in
+    let at-order = c.before.before.before.before.before.before in
+    let order = at-order.order in
+    let stretch = at-order.before.before.stretch in
+    let if1 = at-order.before.before.before.before.if1 in
+    let read = at-order.before.before.before.before.before.before.before.read in
     rw
-    (← list-ordered _ _ _ _
-    (c .before .before .before .before .before .before .before .before .before .before .before .before .before .read .ensures)
-    (c .before .before .before .before .before .before .before .before .before .before .if1 .left) _ _ _
-    (c .before .before .before .before .before .before .before .before .stretch .ensures)
-    (c .before .before .before .before .before .before .order .ensures .0)
-    (c .before .before .before .before .before .before .order .ensures .1 .0))
-    (c .before .before .put-outcome .ensures)
+    (← list-ordered _ _ _ _ read.ensures if1.left _ _ _ stretch.ensures order.ensures.0
+    order.ensures.1.0) put-outcome.ensures
 
 pub list-spec : {M : Type 1} → statement M
 list-spec =

@@ -15,16 +15,16 @@ loop-holds : tie.Need-loop-holds Inv-loop μ-loop
 loop-holds c = counted-starts _ (omega arith)
 
 add-count : tie.Need-add-count Inv-loop μ-loop
-add-count c = omega (arith, counted-few (c .before .loop .inv))
+add-count c = omega (arith, counted-few c.before.loop.inv)
 
 loop-less : tie.Need-loop-less Inv-loop μ-loop
 loop-less c = search needs
 
 loop-again : tie.Need-loop-again Inv-loop μ-loop
-loop-again c = counted-on (c .before .loop .inv) (c .loop-test .taken)
+loop-again c = counted-on c.before.loop.inv c.loop-test.taken
 
 returns : tie.Need-returns Inv-loop μ-loop
-returns c = counted-ends (c .before .loop .inv) (c .loop-test .left)
+returns c = counted-ends c.before.loop.inv c.loop-test.left
 
 pub digit-count-spec : {M : Type 1} → statement M
 digit-count-spec =

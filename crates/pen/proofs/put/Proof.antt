@@ -20,11 +20,14 @@ has-room-requires : tie.Need-has-room-requires Inv-loop μ-loop
 has-room-requires c κs = search needs
 
 returns : tie.Need-returns Inv-loop μ-loop
-returns c = put-nothing _ _ _ (leb-false _ _ (sym (c .before .has-room .ensures) ∙ not-true _ (c .if1 .taken)))
+returns c =
+    let has-room = c.before.has-room in
+    put-nothing _ _ _ (leb-false _ _ (sym has-room.ensures ∙ not-true _ c.if1.taken))
 
 loop-holds : tie.Need-loop-holds Inv-loop μ-loop
 loop-holds c =
-    putting-starts _ _ _ (leb-true _ _ (sym (c .before .has-room .ensures) ∙ not-false _ (c .if1 .left)))
+    let has-room = c.before.has-room in
+    putting-starts _ _ _ (leb-true _ _ (sym has-room.ensures ∙ not-false _ c.if1.left))
 
 shared-slice-read-out : tie.Need-shared-slice-read-out Inv-loop μ-loop
 shared-slice-read-out c = search needs
@@ -33,7 +36,7 @@ add-out : tie.Need-add-out Inv-loop μ-loop
 add-out c = search needs
 
 slice-write-out : tie.Need-slice-write-out Inv-loop μ-loop
-slice-write-out c = omega (arith, c .before .before .loop .inv .room, c .before .before .loop .inv .long)
+slice-write-out c = omega (arith, c.before.before.loop.inv.room, c.before.before.loop.inv.long)
 
 add-i : tie.Need-add-i Inv-loop μ-loop
 add-i c = search needs
@@ -42,16 +45,19 @@ loop-less : tie.Need-loop-less Inv-loop μ-loop
 loop-less c = search needs
 
 loop-again : tie.Need-loop-again Inv-loop μ-loop
-loop-again c = putting-on (c .before .before .loop .inv) (c .before .loop-test .taken)
+loop-again c =
+    let loop-test = c.before.loop-test in
+    let loop = c.before.before.loop in
+    putting-on loop.inv loop-test.taken
 
 add-result : tie.Need-add-result Inv-loop μ-loop
 add-result c = search needs
 
 same-length : tie.Need-same-length Inv-loop μ-loop
-same-length c = c .before .loop .inv .long
+same-length c = c.before.loop.inv.long
 
 returns-2 : tie.Need-returns-2 Inv-loop μ-loop
-returns-2 c = putting-ends (c .before .loop .inv) (c .loop-test .left)
+returns-2 c = putting-ends c.before.loop.inv c.loop-test.left
 
 pub put-spec : {M : Type 1} → statement M
 put-spec =

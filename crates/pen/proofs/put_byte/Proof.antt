@@ -19,7 +19,7 @@ same-length : tie.Need-same-length
 same-length c = search needs
 
 returns-2 : tie.Need-returns-2
-returns-2 c = put-whole (wrote-one _ _ _ (c .if1 .left))
+returns-2 c = put-whole (wrote-one _ _ _ c.if1.left)
 
 pub put-byte-spec : {M : Type 1} → statement M
 put-byte-spec = tie.close (tie.spec returns slice-write-out add-result same-length returns-2)

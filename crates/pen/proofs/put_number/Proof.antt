@@ -25,16 +25,16 @@ add-digits : tie.Need-add-digits Inv-loop μ-loop
 add-digits c = search needs
 
 array-write-digits : tie.Need-array-write-digits Inv-loop μ-loop
-array-write-digits c = omega (arith, c .before .loop .inv .within)
+array-write-digits c = omega (arith, c.before.loop.inv.within)
 
 sub-i : tie.Need-sub-i Inv-loop μ-loop
-sub-i c = omega (arith, spelling-some (c .before .loop .inv .left) (c .loop-test .taken))
+sub-i c = omega (arith, spelling-some c.before.loop.inv.left c.loop-test.taken)
 
 loop-less : tie.Need-loop-less Inv-loop μ-loop
 loop-less c = search needs
 
 loop-again : tie.Need-loop-again Inv-loop μ-loop
-loop-again c = stored-on (c .before .loop .inv) (c .loop-test .taken)
+loop-again c = stored-on c.before.loop.inv c.loop-test.taken
 
 cast-digits-2 : tie.Need-cast-digits-2 Inv-loop μ-loop
 cast-digits-2 c = search needs
@@ -43,34 +43,32 @@ add-digits-2 : tie.Need-add-digits-2 Inv-loop μ-loop
 add-digits-2 c = search needs
 
 array-write-digits-2 : tie.Need-array-write-digits-2 Inv-loop μ-loop
-array-write-digits-2 c = omega (arith, c .before .loop .inv .within)
+array-write-digits-2 c = omega (arith, c.before.loop.inv.within)
 
 sub-put : tie.Need-sub-put Inv-loop μ-loop
-sub-put c = omega (arith, c .before .before .loop .inv .within)
+sub-put c = omega (arith, c.before.before.loop.inv.within)
 
 part-put-start : tie.Need-part-put-start Inv-loop μ-loop
-part-put-start c = omega (arith, c .before .before .before .loop .inv .within)
+part-put-start c = omega (arith, c.before.before.before.loop.inv.within)
 
 part-put-end : tie.Need-part-put-end Inv-loop μ-loop
 part-put-end c =
-    omega (
-      arith,
-      c .before .before .before .loop .inv .room,
-      length-set (c .before .before .before .loop .digits) (c .before .before .before .loop .i)
-          (48 + c .before .before .before .loop .m),
-    )
+    let loop = c.before.before.before.loop in
+    omega (arith, loop.inv.room, length-set loop.digits loop.i (48 + loop.m))
 
 put-requires : tie.Need-put-requires Inv-loop μ-loop
 put-requires c κs = search needs
 
 same-length : tie.Need-same-length Inv-loop μ-loop
-same-length c = put-long (c .before .before .put .ensures)
+same-length c = put-long c.before.before.put.ensures
 
 returns : tie.Need-returns Inv-loop μ-loop
 returns c =
-    rw
-    (stored-ends (c .before .before .before .before .before .before .before .loop .inv)
-    (c .before .before .before .before .before .before .loop-test .left)) at (c .before .before .put .ensures)
+    let put = c.before.before.put in
+    let at-loop-test = c.before.before.before.before.before.before in
+    let loop-test = at-loop-test.loop-test in
+    let loop = at-loop-test.before.loop in
+    rw (stored-ends loop.inv loop-test.left) at put.ensures
 
 pub put-number-spec : {M : Type 1} → statement M
 put-number-spec =

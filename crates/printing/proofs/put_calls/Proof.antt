@@ -35,36 +35,44 @@ note-lines-requires-3 c κs = search needs
 
 array-share-prefix-units : tie.Need-array-share-prefix-units
 array-share-prefix-units c =
-    noted-fits (c .before .before .before .before .before .before .before .before .before .note-lines .ensures)
+    let note-lines = c.before.before.before.before.before.before.before.before.before.note-lines in
+    noted-fits note-lines.ensures
 
 slice-aggregate-put-lines : tie.Need-slice-aggregate-put-lines
 slice-aggregate-put-lines c =
-    sym
-    (length-take-le _ _
-    (noted-fits
-    (c .before .before .before .before .before .before .before .before .before .before .note-lines .ensures)))
+    let at-note-lines = c.before.before.before.before.before.before.before.before.before.before in
+    let note-lines = at-note-lines.note-lines in
+    sym (length-take-le _ _ (noted-fits note-lines.ensures))
 
 array-share-prefix-outputs : tie.Need-array-share-prefix-outputs
 array-share-prefix-outputs c =
-    noted-fits (c .before .before .before .before .before .before .note-lines2 .ensures)
+    let note-lines2 = c.before.before.before.before.before.before.note-lines2 in
+    noted-fits note-lines2.ensures
 
 slice-aggregate-put-lines-2 : tie.Need-slice-aggregate-put-lines-2
 slice-aggregate-put-lines-2 c =
-    sym
-    (length-take-le _ _
-    (noted-fits (c .before .before .before .before .before .before .before .note-lines2 .ensures)))
+    let note-lines2 = c.before.before.before.before.before.before.before.note-lines2 in
+    sym (length-take-le _ _ (noted-fits note-lines2.ensures))
 
 array-share-prefix-inputs : tie.Need-array-share-prefix-inputs
-array-share-prefix-inputs c = noted-fits (c .before .before .before .note-lines3 .ensures)
+array-share-prefix-inputs c = noted-fits c.before.before.before.note-lines3.ensures
 
 slice-aggregate-put-lines-3 : tie.Need-slice-aggregate-put-lines-3
 slice-aggregate-put-lines-3 c =
-    sym (length-take-le _ _ (noted-fits (c .before .before .before .before .note-lines3 .ensures)))
+    let note-lines3 = c.before.before.before.before.note-lines3 in
+    sym (length-take-le _ _ (noted-fits note-lines3.ensures))
 
 put-lines-requires : tie.Need-put-lines-requires
 put-lines-requires c κs =
-    record
-    { unit-places = noted-part (c .before .before .before .before .before .before .before .before .before .before .before .before .before .note-lines .ensures); output-places = noted-part (c .before .before .before .before .before .before .before .before .before .note-lines2 .ensures); input-places = noted-part (c .before .before .before .before .before .note-lines3 .ensures) }
+    let note-lines3 = c.before.before.before.before.before.note-lines3 in
+    let at-note-lines2 = c.before.before.before.before.before.before.before.before.before in
+    let note-lines2 = at-note-lines2.note-lines2 in
+    let note-lines = at-note-lines2.before.before.before.before.note-lines in
+    record {
+      unit-places = noted-part note-lines.ensures;
+      output-places = noted-part note-lines2.ensures;
+      input-places = noted-part note-lines3.ensures;
+    }
 
 same-length : tie.Need-same-length
 same-length c = search needs

@@ -18,13 +18,13 @@ same-length c = search needs
 
 returns : tie.Need-returns
 returns c =
-    rw
-    (← outcome-order
-    (c .before .before .before .before .before .before .before .before .before .before .before .args .text .now)
-    _ _
-    (c .before .before .before .before .before .before .before .before .before .before .before .args .buffer .now)
-    _ (c .before .before .before .before .before .before .before .stretch .ensures)
-    (c .before .before .before .before .before .if1 .taken)) (c .before .before .put-calls .ensures)
+    let put-calls = c.before.before.put-calls in
+    let if1 = c.before.before.before.before.before.if1 in
+    let at-stretch = c.before.before.before.before.before.before.before in
+    let stretch = at-stretch.stretch in
+    let args = at-stretch.before.before.before.before.args in
+    rw (← outcome-order args.text.now _ _ args.buffer.now _ stretch.ensures if1.taken)
+    put-calls.ensures
 
 slice-aggregate-put-calls-2 : tie.Need-slice-aggregate-put-calls-2
 slice-aggregate-put-calls-2 c = search needs
@@ -37,14 +37,14 @@ same-length-2 c = search needs
 
 returns-2 : tie.Need-returns-2
 returns-2 c =
-    rw
-    (← outcome-cycle
-    (c .before .before .before .before .before .before .before .before .before .before .before .before .before .args .text .now)
-    _ _
-    (c .before .before .before .before .before .before .before .before .before .before .before .before .before .args .buffer .now)
-    _ (c .before .before .before .before .before .before .before .before .before .stretch .ensures)
-    (c .before .before .before .before .before .before .before .if1 .left)
-    (c .before .before .before .before .before .if2 .taken)) (c .before .before .put-calls2 .ensures)
+    let put-calls2 = c.before.before.put-calls2 in
+    let if2 = c.before.before.before.before.before.if2 in
+    let at-if1 = c.before.before.before.before.before.before.before in
+    let if1 = at-if1.if1 in
+    let stretch = at-if1.before.before.stretch in
+    let args = at-if1.before.before.before.before.before.before.args in
+    rw (← outcome-cycle args.text.now _ _ args.buffer.now _ stretch.ensures if1.left if2.taken)
+    put-calls2.ensures
 
 put-refusal-requires : tie.Need-put-refusal-requires
 put-refusal-requires c κs = search needs
@@ -54,11 +54,12 @@ same-length-3 c = search needs
 
 returns-3 : tie.Need-returns-3
 returns-3 c =
-    rw
-    (← outcome-refused
-    (c .before .before .before .before .before .before .before .before .before .before .before .before .args .text .now)
-    _ _ _ (c .before .before .before .before .before .before .if1 .left)
-    (c .before .before .before .before .if2 .left)) (c .before .before .put-refusal .ensures)
+    let put-refusal = c.before.before.put-refusal in
+    let if2 = c.before.before.before.before.if2 in
+    let at-if1 = c.before.before.before.before.before.before in
+    let if1 = at-if1.if1 in
+    let args = at-if1.before.before.before.before.before.before.args in
+    rw (← outcome-refused args.text.now _ _ _ if1.left if2.left) put-refusal.ensures
 
 pub put-outcome-spec : {M : Type 1} → statement M
 put-outcome-spec =

@@ -17,28 +17,18 @@ digit-count-requires-2 c κs = search needs
 
 add-if1 : tie.Need-add-if1
 add-if1 c =
-    omega (
-      arith,
-      decimal-long (c .before .before .before .args .number),
-      decimal-long (c .before .before .before .args .line),
-    )
+    let args = c.before.before.before.args in
+    omega (arith, decimal-long args.number, decimal-long args.line)
 
 add-if1-2 : tie.Need-add-if1-2
 add-if1-2 c =
-    omega (
-      arith,
-      decimal-long (c .before .before .before .args .number),
-      decimal-long (c .before .before .before .args .line),
-    )
+    let args = c.before.before.before.args in
+    omega (arith, decimal-long args.number, decimal-long args.line)
 
 returns : tie.Need-returns
 returns c =
-    listed-not _ _
-    (omega (
-      arith,
-      refusal-long (c .before .before .before .before .args .number)
-          (c .before .before .before .before .args .line),
-    ))
+    let args = c.before.before.before.before.args in
+    listed-not _ _ (omega (arith, refusal-long args.number args.line))
 
 slice-aggregate-put-field : tie.Need-slice-aggregate-put-field
 slice-aggregate-put-field c = search needs
@@ -51,19 +41,23 @@ put-count-requires c κs = search needs
 
 put-count-requires-2 : tie.Need-put-count-requires-2
 put-count-requires-2 c κs =
+    let put-count = c.before.before.before.put-count in
+    let at-put-field = c.before.before.before.before.before.before.before in
+    let put-field = at-put-field.put-field in
+    let if1 = at-put-field.before.before.before.if1 in
+    let digit-count2 = at-put-field.before.before.before.before.digit-count2 in
+    let digit-count = at-put-field.before.before.before.before.before.digit-count in
+    let args = at-put-field.before.before.before.before.before.before.before.args in
     omega (
       arith,
-      c .before .before .before .before .before .before .before .before .before .before .if1 .left,
-      c .before .before .before .before .before .before .before .before .before .before .before .before .digit-count .ensures,
-      c .before .before .before .before .before .before .before .before .before .before .before .digit-count2 .ensures,
-      c .before .before .before .before .before .before .before .put-field .ensures .place,
-      c .before .before .before .put-count .ensures .place,
-      wrote-long (c .before .before .before .before .before .before .before .put-field .ensures),
-      wrote-long (c .before .before .before .put-count .ensures),
-      ended-long
-          (decimal
-          (c .before .before .before .before .before .before .before .before .before .before .before .before .before .before .args .number))
-          9,
+      if1.left,
+      digit-count.ensures,
+      digit-count2.ensures,
+      put-field.ensures.place,
+      put-count.ensures.place,
+      wrote-long put-field.ensures,
+      wrote-long put-count.ensures,
+      ended-long (decimal args.number) 9,
     )
 
 same-length : tie.Need-same-length
@@ -71,10 +65,11 @@ same-length c = search needs
 
 returns-2 : tie.Need-returns-2
 returns-2 c =
-    refusal-all _ _
-    (c .before .before .before .before .before .before .before .before .before .before .put-field .ensures)
-    (c .before .before .before .before .before .before .put-count .ensures)
-    (c .before .before .put-count2 .ensures)
+    let put-count2 = c.before.before.put-count2 in
+    let at-put-count = c.before.before.before.before.before.before in
+    let put-count = at-put-count.put-count in
+    let put-field = at-put-count.before.before.before.before.put-field in
+    refusal-all _ _ put-field.ensures put-count.ensures put-count2.ensures
 
 pub put-refusal-spec : {M : Type 1} → statement M
 put-refusal-spec =

@@ -1,3 +1,4 @@
+-- The call of the counts that the table has.
 use borrow.Author.Needs.{needs}
 use Rattle.calls.proofs.number.call_of.Statement.{statement}
 use Rattle.calls.proofs.number.call_of.Tie as tie
@@ -18,9 +19,11 @@ call-in-requires c κs = search needs
 
 returns : tie.Need-returns
 returns c =
-    c .call-in .ensures
-    ∙ call-same _ (c .before .before .before .unit-count .ensures .0)
-    (c .before .before .output-count .ensures .0) (c .before .input-count .ensures .0)
+    let input-count = c.before.input-count in
+    let output-count = c.before.before.output-count in
+    let unit-count = c.before.before.before.unit-count in
+    c.call-in.ensures
+    ∙ call-same _ unit-count.ensures.0 output-count.ensures.0 input-count.ensures.0
 
 pub call-of-spec : {M : Type 1} → statement M
 call-of-spec =

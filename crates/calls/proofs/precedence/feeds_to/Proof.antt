@@ -1,3 +1,4 @@
+-- No pair passed so far feeds input x to output y.
 use Rattle.calls.proofs.precedence.feeds_to.Statement.{statement}
 use Rattle.calls.proofs.precedence.feeds_to.Tie as tie
 use borrow.Author.Needs.{needs}
@@ -27,11 +28,12 @@ is-feed-requires c κs = search needs
 
 returns : tie.Need-returns Inv-loop μ-loop
 returns c =
-    fed _ _ _ _ _ (c .before .before .before .before .feed-count .ensures .0)
-    (c .before .before .loop-test .taken)
-    (says
-    (feed-of _ _ _ _ (c .before .is-feed .ensures)
-    (c .before .before .before .before .before .feed-pairs .ensures)) (c .if1 .taken))
+    let is-feed = c.before.is-feed in
+    let loop-test = c.before.before.loop-test in
+    let feed-count = c.before.before.before.before.feed-count in
+    let feed-pairs = c.before.before.before.before.before.feed-pairs in
+    fed _ _ _ _ _ feed-count.ensures.0 loop-test.taken
+    (says (feed-of _ _ _ _ is-feed.ensures feed-pairs.ensures) c.if1.taken)
 
 add-k : tie.Need-add-k Inv-loop μ-loop
 add-k c = search needs
@@ -40,17 +42,20 @@ loop-less : tie.Need-loop-less Inv-loop μ-loop
 loop-less c = search needs
 
 loop-again : tie.Need-loop-again Inv-loop μ-loop
-loop-again c = (
-  search needs,
-  below-more _ _ (c .before .before .before .loop .inv .1)
-      (denies
-      (feed-of _ _ _ _ (c .before .is-feed .ensures)
-      (c .before .before .before .before .before .feed-pairs .ensures)) (c .if1 .left)),
-)
+loop-again c =
+    let is-feed = c.before.is-feed in
+    let loop = c.before.before.before.loop in
+    let feed-pairs = c.before.before.before.before.before.feed-pairs in (
+      search needs,
+      below-more _ _ loop.inv.1
+          (denies (feed-of _ _ _ _ is-feed.ensures feed-pairs.ensures) c.if1.left),
+    )
 
 returns-2 : tie.Need-returns-2 Inv-loop μ-loop
 returns-2 c =
-    unfed _ _ _ _ _ (c .before .before .feed-count .ensures .0) (c .loop-test .left) (c .before .loop .inv .1)
+    let loop = c.before.loop in
+    let feed-count = c.before.before.feed-count in
+    unfed _ _ _ _ _ feed-count.ensures.0 c.loop-test.left loop.inv.1
 
 pub feeds-to-spec : {M : Type 1} → statement M
 feeds-to-spec =

@@ -1,3 +1,4 @@
+-- A get precedes the sets of the inputs whose source it is.
 use borrow.Author.Needs.{needs}
 use Rattle.calls.proofs.precedence.get_before.Statement.{statement}
 use Rattle.calls.proofs.precedence.get_before.Tie as tie
@@ -26,23 +27,24 @@ enum-told-3 c = search needs
 
 returns : tie.Need-returns
 unfolding byKind before
-returns c = rw (c .enum-told .given .1)
+returns c = rw c.enum-told.given.1
 
 returns-2 : tie.Need-returns-2
 unfolding byKind before
-returns-2 c = rw (c .enum-told2 .given .1)
+returns-2 c = rw c.enum-told2.given.1
 
 returns-3 : tie.Need-returns-3
 unfolding byKind before
 returns-3 c =
-    rw (c .before .before .before .call .given .1)
-    (ap (λ n. eqb n (c .before .before .before .before .before .before .args .y))
-    (byte-of (c .before .before .before .call .given .0 .0) (c .byte .ensures .0)
-    (c .before .input-sources .ensures)))
+    let input-sources = c.before.input-sources in
+    let call = c.before.before.before.call in
+    let args = c.before.before.before.before.before.before.args in
+    rw call.given.1
+    (ap (λ n. eqb n args.y) (byte-of call.given.0.0 c.byte.ensures.0 input-sources.ensures))
 
 returns-4 : tie.Need-returns-4
 unfolding byKind before
-returns-4 c = rw (c .enum-told3 .given .1)
+returns-4 c = rw c.enum-told3.given.1
 
 pub get-before-spec : {M : Type 1} → statement M
 get-before-spec =

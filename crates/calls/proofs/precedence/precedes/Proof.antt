@@ -1,3 +1,4 @@
+-- Both numbers are calls of the table; the answer goes by the kind of the earlier one.
 use borrow.Author.Needs.{needs}
 use Rattle.calls.proofs.precedence.precedes.Statement.{statement}
 use Rattle.calls.proofs.precedence.precedes.Tie as tie
@@ -35,29 +36,33 @@ enum-told c = search needs
 returns : tie.Need-returns
 unfolding before precedes
 returns c =
-    c .step-before .ensures
-    ∙ by-calls _ _ _ _ _ (c .before .before .before .before .call-of2 .ensures)
-    (c .before .before .earlier .given .1) (c .before .before .before .before .before .call-of .ensures)
+    let earlier = c.before.before.earlier in
+    let call-of2 = c.before.before.before.before.call-of2 in
+    let call-of = c.before.before.before.before.before.call-of in
+    c.step-before.ensures ∙ by-calls _ _ _ _ _ call-of2.ensures earlier.given.1 call-of.ensures
 
 returns-2 : tie.Need-returns-2
 unfolding before precedes
 returns-2 c =
-    c .get-before .ensures
-    ∙ by-calls _ _ _ _ _ (c .before .before .before .before .call-of2 .ensures)
-    (c .before .before .earlier2 .given .1) (c .before .before .before .before .before .call-of .ensures)
+    let earlier2 = c.before.before.earlier2 in
+    let call-of2 = c.before.before.before.before.call-of2 in
+    let call-of = c.before.before.before.before.before.call-of in
+    c.get-before.ensures ∙ by-calls _ _ _ _ _ call-of2.ensures earlier2.given.1 call-of.ensures
 
 returns-3 : tie.Need-returns-3
 unfolding before precedes
 returns-3 c =
-    c .set-before .ensures
-    ∙ by-calls _ _ _ _ _ (c .before .before .before .before .call-of2 .ensures)
-    (c .before .before .earlier3 .given .1) (c .before .before .before .before .before .call-of .ensures)
+    let earlier3 = c.before.before.earlier3 in
+    let call-of2 = c.before.before.before.before.call-of2 in
+    let call-of = c.before.before.before.before.before.call-of in
+    c.set-before.ensures ∙ by-calls _ _ _ _ _ call-of2.ensures earlier3.given.1 call-of.ensures
 
 returns-4 : tie.Need-returns-4
 unfolding before precedes
 returns-4 c =
-    by-calls _ _ _ _ _ (c .before .before .call-of2 .ensures) (c .enum-told .given .1)
-    (c .before .before .before .call-of .ensures)
+    let call-of2 = c.before.before.call-of2 in
+    let call-of = c.before.before.before.call-of in
+    by-calls _ _ _ _ _ call-of2.ensures c.enum-told.given.1 call-of.ensures
 
 pub precedes-spec : {M : Type 1} → statement M
 precedes-spec =

@@ -1,3 +1,4 @@
+-- A set precedes the step of its unit where it is reactive, and the gets that it feeds.
 use borrow.Author.Needs.{needs}
 use Rattle.calls.proofs.precedence.set_before.Statement.{statement}
 use Rattle.calls.proofs.precedence.set_before.Tie as tie
@@ -23,19 +24,19 @@ enum-told-2 c = search needs
 
 returns : tie.Need-returns
 unfolding byKind before
-returns c = rw (c .before .before .call .given .1) (c .has-kind .ensures)
+returns c = rw c.before.before.call.given.1 c.has-kind.ensures
 
 returns-2 : tie.Need-returns-2
 unfolding byKind before
-returns-2 c = rw (c .before .before .call2 .given .1) (c .feeds-to .ensures)
+returns-2 c = rw c.before.before.call2.given.1 c.feeds-to.ensures
 
 returns-3 : tie.Need-returns-3
 unfolding byKind before
-returns-3 c = rw (c .enum-told .given .1)
+returns-3 c = rw c.enum-told.given.1
 
 returns-4 : tie.Need-returns-4
 unfolding byKind before
-returns-4 c = rw (c .enum-told2 .given .1)
+returns-4 c = rw c.enum-told2.given.1
 
 pub set-before-spec : {M : Type 1} → statement M
 set-before-spec =

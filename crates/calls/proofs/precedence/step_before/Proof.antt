@@ -1,3 +1,4 @@
+-- A step precedes the gets of its unit's outputs and the sets of its delayed inputs.
 use borrow.Author.Needs.{needs}
 use Rattle.calls.proofs.precedence.step_before.Statement.{statement}
 use Rattle.calls.proofs.precedence.step_before.Tie as tie
@@ -29,23 +30,24 @@ enum-told-2 c = search needs
 
 returns : tie.Need-returns
 unfolding byKind before
-returns c = rw (c .enum-told .given .1)
+returns c = rw c.enum-told.given.1
 
 returns-2 : tie.Need-returns-2
 unfolding byKind before
 returns-2 c =
-    rw (c .before .before .before .call .given .1)
-    (ap (λ n. eqb n (c .before .before .before .before .before .before .args .u))
-    (byte-of (c .before .before .before .call .given .0 .0) (c .byte .ensures .0)
-    (c .before .output-owners .ensures)))
+    let output-owners = c.before.output-owners in
+    let call = c.before.before.before.call in
+    let args = c.before.before.before.before.before.before.args in
+    rw call.given.1
+    (ap (λ n. eqb n args.u) (byte-of call.given.0.0 c.byte.ensures.0 output-owners.ensures))
 
 returns-3 : tie.Need-returns-3
 unfolding byKind before
-returns-3 c = rw (c .before .before .call2 .given .1) (c .has-kind .ensures)
+returns-3 c = rw c.before.before.call2.given.1 c.has-kind.ensures
 
 returns-4 : tie.Need-returns-4
 unfolding byKind before
-returns-4 c = rw (c .enum-told2 .given .1)
+returns-4 c = rw c.enum-told2.given.1
 
 pub step-before-spec : {M : Type 1} → statement M
 step-before-spec =

@@ -1,3 +1,4 @@
+-- The line keeps its length while bytes are put into it.
 use Prim.Native.Nat.{_≤_, _-_}
 use mathlib.Core.Path.{_≡_}
 use lib.ListN.{length}

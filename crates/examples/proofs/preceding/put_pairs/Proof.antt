@@ -1,3 +1,4 @@
+-- The line keeps its length while pairs of calls are put into it.
 use Prim.Native.Nat.{_≤_, _-_}
 use mathlib.Core.Path.{_≡_}
 use lib.ListN.{length}

@@ -1,3 +1,4 @@
+-- The table keeps its 644 bytes while its feeds are written.
 use Rattle.examples.proofs.tables.greatest.Statement.{statement}
 use Rattle.examples.proofs.tables.greatest.Tie as tie
 use borrow.Author.Needs.{needs}

@@ -8,7 +8,7 @@ use Rattle.judge.proofs.Refusals.{get-12, get-15, get-16, get-0}
 use Rattle.judge.proofs.Scanned.{unstepped-is, unfed-is, feeds-room, output-small}
 
 returns : tie.Need-returns
-returns c = get-12 _ _ _ _ (c .if1 .taken)
+returns c = get-12 _ _ _ _ c.if1.taken
 
 output-owners-requires : tie.Need-output-owners-requires
 output-owners-requires c κs = search needs
@@ -21,11 +21,13 @@ marked-requires c κs = search needs
 
 returns-2 : tie.Need-returns-2
 returns-2 c =
-    get-15 _ _ _ (c .before .before .before .before .if1 .left) _
-    (sym
-    (unstepped-is _ _ _ _ _ _ (c .before .before .byte .ensures .0)
-    (c .before .before .before .output-owners .ensures) (c .before .marked .ensures))
-    ∙ c .if2 .taken)
+    let marked = c.before.marked in
+    let byte = c.before.before.byte in
+    let output-owners = c.before.before.before.output-owners in
+    let if1 = c.before.before.before.before.if1 in
+    get-15 _ _ _ if1.left _
+    (sym (unstepped-is _ _ _ _ _ _ byte.ensures.0 output-owners.ensures marked.ensures)
+    ∙ c.if2.taken)
 
 unit-count-requires : tie.Need-unit-count-requires
 unit-count-requires c κs = search needs
@@ -41,53 +43,63 @@ feed-pairs-requires c κs = search needs
 
 cast-some-lacking : tie.Need-cast-some-lacking
 cast-some-lacking c =
-    omega (
-      arith,
-      output-small _ (c .before .before .before .before .before .before .before .before .before .pre .0) _
-          (c .before .before .before .before .before .before .before .before .before .pre .1),
-    )
+    let pre = c.before.before.before.before.before.before.before.before.before.pre in
+    omega (arith, output-small _ pre.0 _ pre.1)
 
 feed-count-requires : tie.Need-feed-count-requires
 feed-count-requires c κs = search needs
 
 some-lacking-requires : tie.Need-some-lacking-requires
 some-lacking-requires c κs =
-    feeds-room _ (c .before .before .before .before .before .before .before .before .before .before .pre .0) _ _
-    (c .before .before .before .unit-count .ensures .0) (c .before .before .output-count .ensures .0) _ _
-    (c .before .feed-pairs .ensures) (c .feed-count .ensures .0)
+    let feed-pairs = c.before.feed-pairs in
+    let output-count = c.before.before.output-count in
+    let at-unit-count = c.before.before.before in
+    let unit-count = at-unit-count.unit-count in
+    let pre = at-unit-count.before.before.before.before.before.before.before.pre in
+    feeds-room _ pre.0 _ _ unit-count.ensures.0 output-count.ensures.0 _ _ feed-pairs.ensures
+    c.feed-count.ensures.0
 
 returns-3 : tie.Need-returns-3
 returns-3 c =
-    get-16 _ _ _ (c .before .before .before .before .before .before .before .before .before .before .if1 .left)
-    _
+    let some-lacking = c.before.some-lacking in
+    let feed-count = c.before.before.feed-count in
+    let feed-pairs = c.before.before.before.feed-pairs in
+    let output-count = c.before.before.before.before.output-count in
+    let unit-count = c.before.before.before.before.before.unit-count in
+    let at-if2 = c.before.before.before.before.before.before in
+    let if2 = at-if2.if2 in
+    let marked = at-if2.before.marked in
+    let byte = at-if2.before.before.byte in
+    let output-owners = at-if2.before.before.before.output-owners in
+    let if1 = at-if2.before.before.before.before.if1 in
+    get-16 _ _ _ if1.left _
+    (sym (unstepped-is _ _ _ _ _ _ byte.ensures.0 output-owners.ensures marked.ensures) ∙ if2.left)
     (sym
-    (unstepped-is _ _ _ _ _ _
-    (c .before .before .before .before .before .before .before .before .byte .ensures .0)
-    (c .before .before .before .before .before .before .before .before .before .output-owners .ensures)
-    (c .before .before .before .before .before .before .before .marked .ensures))
-    ∙ c .before .before .before .before .before .before .if2 .left)
-    (sym
-    (unfed-is _ _ _ _ (c .before .before .before .before .before .unit-count .ensures .0)
-    (c .before .before .before .before .output-count .ensures .0) _ _ _
-    (c .before .before .before .feed-pairs .ensures) (c .before .before .feed-count .ensures .0))
-    ∙ sym (c .before .some-lacking .ensures)
-    ∙ c .if3 .taken)
+    (unfed-is _ _ _ _ unit-count.ensures.0 output-count.ensures.0 _ _ _ feed-pairs.ensures
+    feed-count.ensures.0)
+    ∙ sym some-lacking.ensures
+    ∙ c.if3.taken)
 
 returns-4 : tie.Need-returns-4
 returns-4 c =
-    get-0 _ _ _ (c .before .before .before .before .before .before .before .before .before .before .if1 .left) _
+    let some-lacking = c.before.some-lacking in
+    let feed-count = c.before.before.feed-count in
+    let feed-pairs = c.before.before.before.feed-pairs in
+    let output-count = c.before.before.before.before.output-count in
+    let unit-count = c.before.before.before.before.before.unit-count in
+    let at-if2 = c.before.before.before.before.before.before in
+    let if2 = at-if2.if2 in
+    let marked = at-if2.before.marked in
+    let byte = at-if2.before.before.byte in
+    let output-owners = at-if2.before.before.before.output-owners in
+    let if1 = at-if2.before.before.before.before.if1 in
+    get-0 _ _ _ if1.left _
+    (sym (unstepped-is _ _ _ _ _ _ byte.ensures.0 output-owners.ensures marked.ensures) ∙ if2.left)
     (sym
-    (unstepped-is _ _ _ _ _ _
-    (c .before .before .before .before .before .before .before .before .byte .ensures .0)
-    (c .before .before .before .before .before .before .before .before .before .output-owners .ensures)
-    (c .before .before .before .before .before .before .before .marked .ensures))
-    ∙ c .before .before .before .before .before .before .if2 .left)
-    (sym
-    (unfed-is _ _ _ _ (c .before .before .before .before .before .unit-count .ensures .0)
-    (c .before .before .before .before .output-count .ensures .0) _ _ _
-    (c .before .before .before .feed-pairs .ensures) (c .before .before .feed-count .ensures .0))
-    ∙ sym (c .before .some-lacking .ensures)
-    ∙ c .if3 .left)
+    (unfed-is _ _ _ _ unit-count.ensures.0 output-count.ensures.0 _ _ _ feed-pairs.ensures
+    feed-count.ensures.0)
+    ∙ sym some-lacking.ensures
+    ∙ c.if3.left)
 
 pub get-refusal-spec : {M : Type 1} → statement M
 get-refusal-spec =

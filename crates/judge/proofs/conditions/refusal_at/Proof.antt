@@ -23,25 +23,35 @@ enum-known-asked : tie.Need-enum-known-asked
 enum-known-asked c = search needs
 
 step-refusal-requires : tie.Need-step-refusal-requires
-step-refusal-requires c κs = (
-  c .before .before .before .before .before .before .before .before .before .pre,
-  at-step _ _ _ _ _ (c .before .before .before .before .before .before .unit-count .ensures .0)
-      (c .before .before .before .before .before .output-count .ensures .0)
-      (c .before .before .before .before .input-count .ensures .0) _
-      (c .before .before .before .call-in .ensures) _ (c .before .asked .given .1),
-)
+step-refusal-requires c κs =
+    let asked = c.before.asked in
+    let call-in = c.before.before.before.call-in in
+    let input-count = c.before.before.before.before.input-count in
+    let output-count = c.before.before.before.before.before.output-count in
+    let at-unit-count = c.before.before.before.before.before.before in
+    let unit-count = at-unit-count.unit-count in
+    let pre = at-unit-count.before.before.before.pre in (
+      pre,
+      at-step _ _ _ _ _ unit-count.ensures.0 output-count.ensures.0 input-count.ensures.0 _
+          call-in.ensures _ asked.given.1,
+    )
 
 enum-known-asked-2 : tie.Need-enum-known-asked-2
 enum-known-asked-2 c = search needs
 
 get-refusal-requires : tie.Need-get-refusal-requires
-get-refusal-requires c κs = (
-  c .before .before .before .before .before .before .before .before .before .pre,
-  at-get _ _ _ _ _ (c .before .before .before .before .before .before .unit-count .ensures .0)
-      (c .before .before .before .before .before .output-count .ensures .0)
-      (c .before .before .before .before .input-count .ensures .0) _
-      (c .before .before .before .call-in .ensures) _ (c .before .asked2 .given .1),
-)
+get-refusal-requires c κs =
+    let asked2 = c.before.asked2 in
+    let call-in = c.before.before.before.call-in in
+    let input-count = c.before.before.before.before.input-count in
+    let output-count = c.before.before.before.before.before.output-count in
+    let at-unit-count = c.before.before.before.before.before.before in
+    let unit-count = at-unit-count.unit-count in
+    let pre = at-unit-count.before.before.before.pre in (
+      pre,
+      at-get _ _ _ _ _ unit-count.ensures.0 output-count.ensures.0 input-count.ensures.0 _
+          call-in.ensures _ asked2.given.1,
+    )
 
 enum-known-asked-3 : tie.Need-enum-known-asked-3
 enum-known-asked-3 c = search needs
@@ -54,38 +64,49 @@ enum-told c = search needs
 
 returns : tie.Need-returns
 returns c =
-    judged-as _ _ _ _ _ (c .before .before .before .before .before .before .before .unit-count .ensures .0)
-    (c .before .before .before .before .before .before .output-count .ensures .0)
-    (c .before .before .before .before .before .input-count .ensures .0) _
-    (c .before .before .before .before .call-in .ensures) _ _
-    (c .before .before .before .before .before .before .before .before .marked .ensures) _
-    (c .before .before .asked .given .1) _ (c .step-refusal .ensures)
+    let asked = c.before.before.asked in
+    let call-in = c.before.before.before.before.call-in in
+    let input-count = c.before.before.before.before.before.input-count in
+    let at-output-count = c.before.before.before.before.before.before in
+    let output-count = at-output-count.output-count in
+    let unit-count = at-output-count.before.unit-count in
+    let marked = at-output-count.before.before.marked in
+    judged-as _ _ _ _ _ unit-count.ensures.0 output-count.ensures.0 input-count.ensures.0 _
+    call-in.ensures _ _ marked.ensures _ asked.given.1 _ c.step-refusal.ensures
 
 returns-2 : tie.Need-returns-2
 returns-2 c =
-    judged-as _ _ _ _ _ (c .before .before .before .before .before .before .before .unit-count .ensures .0)
-    (c .before .before .before .before .before .before .output-count .ensures .0)
-    (c .before .before .before .before .before .input-count .ensures .0) _
-    (c .before .before .before .before .call-in .ensures) _ _
-    (c .before .before .before .before .before .before .before .before .marked .ensures) _
-    (c .before .before .asked2 .given .1) _ (c .get-refusal .ensures)
+    let asked2 = c.before.before.asked2 in
+    let call-in = c.before.before.before.before.call-in in
+    let input-count = c.before.before.before.before.before.input-count in
+    let at-output-count = c.before.before.before.before.before.before in
+    let output-count = at-output-count.output-count in
+    let unit-count = at-output-count.before.unit-count in
+    let marked = at-output-count.before.before.marked in
+    judged-as _ _ _ _ _ unit-count.ensures.0 output-count.ensures.0 input-count.ensures.0 _
+    call-in.ensures _ _ marked.ensures _ asked2.given.1 _ c.get-refusal.ensures
 
 returns-3 : tie.Need-returns-3
 returns-3 c =
-    judged-as _ _ _ _ _ (c .before .before .before .before .before .before .before .unit-count .ensures .0)
-    (c .before .before .before .before .before .before .output-count .ensures .0)
-    (c .before .before .before .before .before .input-count .ensures .0) _
-    (c .before .before .before .before .call-in .ensures) _ _
-    (c .before .before .before .before .before .before .before .before .marked .ensures) _
-    (c .before .before .asked3 .given .1) _ (c .set-refusal .ensures)
+    let asked3 = c.before.before.asked3 in
+    let call-in = c.before.before.before.before.call-in in
+    let input-count = c.before.before.before.before.before.input-count in
+    let at-output-count = c.before.before.before.before.before.before in
+    let output-count = at-output-count.output-count in
+    let unit-count = at-output-count.before.unit-count in
+    let marked = at-output-count.before.before.marked in
+    judged-as _ _ _ _ _ unit-count.ensures.0 output-count.ensures.0 input-count.ensures.0 _
+    call-in.ensures _ _ marked.ensures _ asked3.given.1 _ c.set-refusal.ensures
 
 returns-4 : tie.Need-returns-4
 returns-4 c =
-    judged-as _ _ _ _ _ (c .before .before .before .before .before .unit-count .ensures .0)
-    (c .before .before .before .before .output-count .ensures .0)
-    (c .before .before .before .input-count .ensures .0) _ (c .before .before .call-in .ensures) _ _
-    (c .before .before .before .before .before .before .marked .ensures) _ (c .enum-told .given .1) _
-    (no-call _ _ _)
+    let call-in = c.before.before.call-in in
+    let input-count = c.before.before.before.input-count in
+    let output-count = c.before.before.before.before.output-count in
+    let unit-count = c.before.before.before.before.before.unit-count in
+    let marked = c.before.before.before.before.before.before.marked in
+    judged-as _ _ _ _ _ unit-count.ensures.0 output-count.ensures.0 input-count.ensures.0 _
+    call-in.ensures _ _ marked.ensures _ c.enum-told.given.1 _ (no-call _ _ _)
 
 pub refusal-at-spec : {M : Type 1} → statement M
 refusal-at-spec =

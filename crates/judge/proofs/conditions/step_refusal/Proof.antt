@@ -9,7 +9,7 @@ use Rattle.judge.proofs.Refusals.{step-12, step-13, step-14, step-0}
 use Rattle.judge.proofs.Scanned.{early-is, either-is, inputs-room, unit-small}
 
 returns : tie.Need-returns
-returns c = step-12 _ _ _ _ (c .if1 .taken)
+returns c = step-12 _ _ _ _ c.if1.taken
 
 input-owners-requires : tie.Need-input-owners-requires
 input-owners-requires c κs = search needs
@@ -28,68 +28,85 @@ add-first c = search needs
 
 cast-this : tie.Need-cast-this
 cast-this c =
-    omega (
-      arith,
-      unit-small _ (c .before .before .before .before .before .before .pre .0) _
-          (c .before .before .before .before .before .before .pre .1),
-    )
+    let pre = c.before.before.before.before.before.before.pre in
+    omega (arith, unit-small _ pre.0 _ pre.1)
 
 some-amiss-requires : tie.Need-some-amiss-requires
 some-amiss-requires c κs =
-    inputs-room _ (c .before .before .before .before .before .before .pre .0) _ _
-    (c .before .unit-count .ensures .0) (c .output-count .ensures .0) _ _
-    (c .before .before .before .input-owners .ensures) (c .before .before .input-kinds .ensures)
+    let unit-count = c.before.unit-count in
+    let input-kinds = c.before.before.input-kinds in
+    let input-owners = c.before.before.before.input-owners in
+    let pre = c.before.before.before.before.before.before.pre in
+    inputs-room _ pre.0 _ _ unit-count.ensures.0 c.output-count.ensures.0 _ _ input-owners.ensures
+    input-kinds.ensures
 
 returns-2 : tie.Need-returns-2
 returns-2 c =
-    step-0 _ _ _ (c .before .before .before .before .before .before .if1 .left) _
+    let some-amiss = c.before.some-amiss in
+    let output-count = c.before.before.output-count in
+    let unit-count = c.before.before.before.unit-count in
+    let input-kinds = c.before.before.before.before.input-kinds in
+    let input-owners = c.before.before.before.before.before.input-owners in
+    let at-if1 = c.before.before.before.before.before.before in
+    let if1 = at-if1.if1 in
+    let pre = at-if1.before.before.pre in
+    step-0 _ _ _ if1.left _
     (sym
-    (either-is _ _ _ _ (c .before .before .before .unit-count .ensures .0)
-    (c .before .before .output-count .ensures .0)
-    (c .before .before .before .before .before .before .before .before .pre .0) _ _
-    (c .before .before .before .before .before .input-owners .ensures)
-    (c .before .before .before .before .input-kinds .ensures) _)
-    ∙ sym (c .before .some-amiss .ensures)
-    ∙ not-true _ (c .if2 .taken))
+    (either-is _ _ _ _ unit-count.ensures.0 output-count.ensures.0 pre.0 _ _ input-owners.ensures
+    input-kinds.ensures _)
+    ∙ sym some-amiss.ensures
+    ∙ not-true _ c.if2.taken)
 
 some-amiss-requires-2 : tie.Need-some-amiss-requires-2
 some-amiss-requires-2 c κs =
-    inputs-room _ (c .before .before .before .before .before .before .before .before .pre .0) _ _
-    (c .before .before .before .unit-count .ensures .0) (c .before .before .output-count .ensures .0) _ _
-    (c .before .before .before .before .before .input-owners .ensures)
-    (c .before .before .before .before .input-kinds .ensures)
+    let output-count = c.before.before.output-count in
+    let unit-count = c.before.before.before.unit-count in
+    let input-kinds = c.before.before.before.before.input-kinds in
+    let input-owners = c.before.before.before.before.before.input-owners in
+    let pre = c.before.before.before.before.before.before.before.before.pre in
+    inputs-room _ pre.0 _ _ unit-count.ensures.0 output-count.ensures.0 _ _ input-owners.ensures
+    input-kinds.ensures
 
 returns-3 : tie.Need-returns-3
 returns-3 c =
-    step-13 _ _ _ (c .before .before .before .before .before .before .before .before .if1 .left) _
+    let some-amiss2 = c.before.some-amiss2 in
+    let output-count = c.before.before.before.before.output-count in
+    let unit-count = c.before.before.before.before.before.unit-count in
+    let at-input-kinds = c.before.before.before.before.before.before in
+    let input-kinds = at-input-kinds.input-kinds in
+    let input-owners = at-input-kinds.before.input-owners in
+    let if1 = at-input-kinds.before.before.if1 in
+    let pre = at-input-kinds.before.before.before.before.pre in
+    step-13 _ _ _ if1.left _
     (sym
-    (early-is _ _ _ _ (c .before .before .before .before .before .unit-count .ensures .0)
-    (c .before .before .before .before .output-count .ensures .0)
-    (c .before .before .before .before .before .before .before .before .before .before .pre .0) _ _
-    (c .before .before .before .before .before .before .before .input-owners .ensures)
-    (c .before .before .before .before .before .before .input-kinds .ensures) _)
-    ∙ sym (c .before .some-amiss2 .ensures)
-    ∙ c .if3 .taken)
+    (early-is _ _ _ _ unit-count.ensures.0 output-count.ensures.0 pre.0 _ _ input-owners.ensures
+    input-kinds.ensures _)
+    ∙ sym some-amiss2.ensures
+    ∙ c.if3.taken)
 
 returns-4 : tie.Need-returns-4
 returns-4 c =
-    step-14 _ _ _ (c .before .before .before .before .before .before .before .before .if1 .left) _
+    let some-amiss2 = c.before.some-amiss2 in
+    let if2 = c.before.before.if2 in
+    let some-amiss = c.before.before.before.some-amiss in
+    let output-count = c.before.before.before.before.output-count in
+    let unit-count = c.before.before.before.before.before.unit-count in
+    let at-input-kinds = c.before.before.before.before.before.before in
+    let input-kinds = at-input-kinds.input-kinds in
+    let input-owners = at-input-kinds.before.input-owners in
+    let if1 = at-input-kinds.before.before.if1 in
+    let pre = at-input-kinds.before.before.before.before.pre in
+    step-14 _ _ _ if1.left _
     (sym
-    (either-is _ _ _ _ (c .before .before .before .before .before .unit-count .ensures .0)
-    (c .before .before .before .before .output-count .ensures .0)
-    (c .before .before .before .before .before .before .before .before .before .before .pre .0) _ _
-    (c .before .before .before .before .before .before .before .input-owners .ensures)
-    (c .before .before .before .before .before .before .input-kinds .ensures) _)
-    ∙ sym (c .before .before .before .some-amiss .ensures)
-    ∙ not-false _ (c .before .before .if2 .left))
+    (either-is _ _ _ _ unit-count.ensures.0 output-count.ensures.0 pre.0 _ _ input-owners.ensures
+    input-kinds.ensures _)
+    ∙ sym some-amiss.ensures
+    ∙ not-false _ if2.left)
     (sym
-    (early-is _ _ _ _ (c .before .before .before .before .before .unit-count .ensures .0)
-    (c .before .before .before .before .output-count .ensures .0)
-    (c .before .before .before .before .before .before .before .before .before .before .pre .0) _ _
-    (c .before .before .before .before .before .before .before .input-owners .ensures)
-    (c .before .before .before .before .before .before .input-kinds .ensures) _)
-    ∙ sym (c .before .some-amiss2 .ensures)
-    ∙ c .if3 .left)
+    (early-is _ _ _ _ unit-count.ensures.0 output-count.ensures.0 pre.0 _ _ input-owners.ensures
+    input-kinds.ensures _)
+    ∙ sym some-amiss2.ensures
+    ∙ c.if3.left)
 
 pub step-refusal-spec : {M : Type 1} → statement M
 step-refusal-spec =

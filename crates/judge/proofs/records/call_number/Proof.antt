@@ -54,27 +54,38 @@ add-result-2 c = search needs
 
 returns : tie.Need-returns
 returns c =
-    record-step _ _ _ _ _ (c .before .before .before .before .before .unit-count .ensures .0)
-    (c .before .before .before .before .output-count .ensures .0)
-    (c .before .before .before .input-count .ensures .0) _ (c .before .match .keys1) (c .within .ensures)
+    let match = c.before.match in
+    let input-count = c.before.before.before.input-count in
+    let output-count = c.before.before.before.before.output-count in
+    let unit-count = c.before.before.before.before.before.unit-count in
+    record-step _ _ _ _ _ unit-count.ensures.0 output-count.ensures.0 input-count.ensures.0 _
+    match.keys1 c.within.ensures
 
 returns-2 : tie.Need-returns-2
 returns-2 c =
-    record-get _ _ _ _ _ (c .before .before .before .before .before .unit-count .ensures .0)
-    (c .before .before .before .before .output-count .ensures .0)
-    (c .before .before .before .input-count .ensures .0) _ (c .before .match .keys2) (c .within2 .ensures)
+    let match = c.before.match in
+    let input-count = c.before.before.before.input-count in
+    let output-count = c.before.before.before.before.output-count in
+    let unit-count = c.before.before.before.before.before.unit-count in
+    record-get _ _ _ _ _ unit-count.ensures.0 output-count.ensures.0 input-count.ensures.0 _
+    match.keys2 c.within2.ensures
 
 returns-3 : tie.Need-returns-3
 returns-3 c =
-    record-set _ _ _ _ _ (c .before .before .before .before .before .unit-count .ensures .0)
-    (c .before .before .before .before .output-count .ensures .0)
-    (c .before .before .before .input-count .ensures .0) _ (c .before .match .keys3) (c .within3 .ensures)
+    let match = c.before.match in
+    let input-count = c.before.before.before.input-count in
+    let output-count = c.before.before.before.before.output-count in
+    let unit-count = c.before.before.before.before.before.unit-count in
+    record-set _ _ _ _ _ unit-count.ensures.0 output-count.ensures.0 input-count.ensures.0 _
+    match.keys3 c.within3.ensures
 
 returns-4 : tie.Need-returns-4
 returns-4 c =
-    record-none _ _ _ _ _ (c .before .before .before .before .unit-count .ensures .0)
-    (c .before .before .before .output-count .ensures .0) (c .before .before .input-count .ensures .0)
-    (c .match .rest .0 .0 .1) (c .match .rest .0 .1) (c .match .rest .1)
+    let input-count = c.before.before.input-count in
+    let output-count = c.before.before.before.output-count in
+    let unit-count = c.before.before.before.before.unit-count in
+    record-none _ _ _ _ _ unit-count.ensures.0 output-count.ensures.0 input-count.ensures.0
+    c.match.rest.0.0.1 c.match.rest.0.1 c.match.rest.1
 
 pub call-number-spec : {M : Type 1} → statement M
 call-number-spec =

@@ -13,17 +13,21 @@ refusal-at-requires c κs = search needs
 
 element-write-done : tie.Need-element-write-done
 element-write-done c =
-    taken-small _ (c .before .before .before .before .before .pre) _ _ _ (c .before .refusal-at .ensures) (c .if1 .taken)
+    let refusal-at = c.before.refusal-at in
+    let pre = c.before.before.before.before.before.pre in
+    taken-small _ pre _ _ _ refusal-at.ensures c.if1.taken
 
 returns : tie.Need-returns
 returns c =
-    record-taken _ _ _ _ _ (c .before .before .before .call-number .ensures) (c .before .refusal-at .ensures)
-    (c .if1 .taken)
+    let refusal-at = c.before.refusal-at in
+    let call-number = c.before.before.before.call-number in
+    record-taken _ _ _ _ _ call-number.ensures refusal-at.ensures c.if1.taken
 
 returns-2 : tie.Need-returns-2
 returns-2 c =
-    record-refused _ _ _ _ _ (c .before .before .before .call-number .ensures) (c .before .refusal-at .ensures)
-    (c .if1 .left)
+    let refusal-at = c.before.refusal-at in
+    let call-number = c.before.before.before.call-number in
+    record-refused _ _ _ _ _ call-number.ensures refusal-at.ensures c.if1.left
 
 pub judge-record-spec : {M : Type 1} → statement M
 judge-record-spec =

@@ -16,7 +16,7 @@ shared-slice-read-if1 : tie.Need-shared-slice-read-if1
 shared-slice-read-if1 c = search needs
 
 returns : tie.Need-returns
-returns c = lacking-other _ _ _ _ _ (c .if1 .taken)
+returns c = lacking-other _ _ _ _ _ c.if1.taken
 
 mul-input : tie.Need-mul-input
 mul-input c = search needs
@@ -25,16 +25,18 @@ shared-slice-read-input : tie.Need-shared-slice-read-input
 shared-slice-read-input c = search needs
 
 cast-input : tie.Need-cast-input
-cast-input c = byte-fits _ ((c .shared-slice-known3 .given _) .fits)
+cast-input c = byte-fits _ ((c.shared-slice-known3.given _) .fits)
 
 add-marked : tie.Need-add-marked
-add-marked c = sum-fits _ _ (c .before .before .before .before .pre .1) ((c .shared-slice-known3 .given _) .fits)
+add-marked c =
+    let pre = c.before.before.before.before.pre in
+    sum-fits _ _ pre.1 ((c.shared-slice-known3.given _) .fits)
 
 marked-requires : tie.Need-marked-requires
 marked-requires c κs = search needs
 
 returns-2 : tie.Need-returns-2
-returns-2 c = lacking-mark _ _ _ _ _ (c .before .before .if1 .left) _ refl _ (c .marked .ensures)
+returns-2 c = lacking-mark _ _ _ _ _ c.before.before.if1.left _ refl _ c.marked.ensures
 
 pub lacking-spec : {M : Type 1} → statement M
 lacking-spec =

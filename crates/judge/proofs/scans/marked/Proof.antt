@@ -8,10 +8,10 @@ element-copy-out-result : tie.Need-element-copy-out-result
 element-copy-out-result c = search needs
 
 returns : tie.Need-returns
-returns c = mark-below _ _ (c .before .if1 .taken)
+returns c = mark-below _ _ c.before.if1.taken
 
 returns-2 : tie.Need-returns-2
-returns-2 c = mark-above _ _ (c .if1 .left)
+returns-2 c = mark-above _ _ c.if1.left
 
 pub marked-spec : {M : Type 1} → statement M
 marked-spec = tie.close (tie.spec element-copy-out-result returns returns-2)

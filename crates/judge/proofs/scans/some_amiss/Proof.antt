@@ -27,7 +27,9 @@ amiss-requires c κs = search needs
 
 returns : tie.Need-returns Inv-loop μ-loop
 returns c =
-    some-yes _ _ _ (c .before .before .loop-test .taken) (says (c .before .amiss .ensures) (c .if1 .taken))
+    let amiss = c.before.amiss in
+    let loop-test = c.before.before.loop-test in
+    some-yes _ _ _ loop-test.taken (says amiss.ensures c.if1.taken)
 
 add-x : tie.Need-add-x Inv-loop μ-loop
 add-x c = search needs
@@ -36,14 +38,13 @@ loop-less : tie.Need-loop-less Inv-loop μ-loop
 loop-less c = search needs
 
 loop-again : tie.Need-loop-again Inv-loop μ-loop
-loop-again c = (
-  search needs,
-  below-more _ _ (c .before .before .before .loop .inv .1)
-      (denies (c .before .amiss .ensures) (c .if1 .left)),
-)
+loop-again c =
+    let amiss = c.before.amiss in
+    let loop = c.before.before.before.loop in
+    (search needs, below-more _ _ loop.inv.1 (denies amiss.ensures c.if1.left))
 
 returns-2 : tie.Need-returns-2 Inv-loop μ-loop
-returns-2 c = some-no _ _ _ (c .loop-test .left) (c .before .loop .inv .1)
+returns-2 c = some-no _ _ _ c.loop-test.left c.before.loop.inv.1
 
 pub some-amiss-spec : {M : Type 1} → statement M
 some-amiss-spec =

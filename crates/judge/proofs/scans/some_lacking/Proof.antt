@@ -29,8 +29,9 @@ lacking-requires c κs = search needs
 
 returns : tie.Need-returns Inv-loop μ-loop
 returns c =
-    some-yes _ _ _ (omega (arith, c .before .before .loop-test .taken))
-    (says (c .before .lacking .ensures) (c .if1 .taken))
+    let lacking = c.before.lacking in
+    let loop-test = c.before.before.loop-test in
+    some-yes _ _ _ (omega (arith, loop-test.taken)) (says lacking.ensures c.if1.taken)
 
 add-lacking : tie.Need-add-lacking Inv-loop μ-loop
 add-lacking c = search needs
@@ -40,8 +41,9 @@ lacking-requires-2 c κs = search needs
 
 returns-2 : tie.Need-returns-2 Inv-loop μ-loop
 returns-2 c =
-    some-yes _ _ _ (c .before .before .before .before .loop-test .taken)
-    (says (c .before .lacking2 .ensures) (c .if2 .taken))
+    let lacking2 = c.before.lacking2 in
+    let loop-test = c.before.before.before.before.loop-test in
+    some-yes _ _ _ loop-test.taken (says lacking2.ensures c.if2.taken)
 
 add-k : tie.Need-add-k Inv-loop μ-loop
 add-k c = search needs
@@ -50,23 +52,28 @@ loop-less : tie.Need-loop-less Inv-loop μ-loop
 loop-less c = search needs
 
 loop-again : tie.Need-loop-again Inv-loop μ-loop
-loop-again c = (
-  search needs,
-  two-more _ _ (c .before .before .before .before .before .loop .inv .1)
-      (denies (c .before .before .before .lacking .ensures) (c .before .before .if1 .left))
-      (denies (c .before .lacking2 .ensures) (c .if2 .left)),
-)
+loop-again c =
+    let lacking2 = c.before.lacking2 in
+    let if1 = c.before.before.if1 in
+    let lacking = c.before.before.before.lacking in
+    let loop = c.before.before.before.before.before.loop in (
+      search needs,
+      two-more _ _ loop.inv.1 (denies lacking.ensures if1.left)
+          (denies lacking2.ensures c.if2.left),
+    )
 
 lacking-requires-3 : tie.Need-lacking-requires-3 Inv-loop μ-loop
 lacking-requires-3 c κs = search needs
 
 returns-3 : tie.Need-returns-3 Inv-loop μ-loop
 returns-3 c =
-    some-last _ _ _ (c .before .if3 .taken) (c .before .before .loop-test .left)
-    (c .before .before .before .loop .inv .1) _ (c .lacking3 .ensures)
+    let if3 = c.before.if3 in
+    let loop-test = c.before.before.loop-test in
+    let loop = c.before.before.before.loop in
+    some-last _ _ _ if3.taken loop-test.left loop.inv.1 _ c.lacking3.ensures
 
 returns-4 : tie.Need-returns-4 Inv-loop μ-loop
-returns-4 c = some-no _ _ _ (c .if3 .left) (c .before .before .loop .inv .1)
+returns-4 c = some-no _ _ _ c.if3.left c.before.before.loop.inv.1
 
 pub some-lacking-spec : {M : Type 1} → statement M
 some-lacking-spec =

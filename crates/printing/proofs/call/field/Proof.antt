@@ -29,35 +29,32 @@ cast-to c = search needs
 
 sub-result : tie.Need-sub-result
 sub-result c =
-    omega (
-      arith,
-      part-of (c .before .before .fields-at .ensures) (c .before .before .before .before .pre .0)
-          (c .before .before .before .before .pre .1) .order,
-    )
+    let fields-at = c.before.before.fields-at in
+    let pre = c.before.before.before.before.pre in
+    omega (arith, part-of fields-at.ensures pre.0 pre.1 .order)
 
 part-result-start : tie.Need-part-result-start
 part-result-start c =
-    omega (
-      arith,
-      part-of (c .before .before .fields-at .ensures) (c .before .before .before .before .pre .0)
-          (c .before .before .before .before .pre .1) .order,
-    )
+    let fields-at = c.before.before.fields-at in
+    let pre = c.before.before.before.before.pre in
+    omega (arith, part-of fields-at.ensures pre.0 pre.1 .order)
 
 part-result-end : tie.Need-part-result-end
 part-result-end c =
+    let fields-at = c.before.before.fields-at in
+    let pre = c.before.before.before.before.pre in
     omega (
       arith,
-      part-of (c .before .before .fields-at .ensures) (c .before .before .before .before .pre .0)
-          (c .before .before .before .before .pre .1) .order,
-      part-of (c .before .before .fields-at .ensures) (c .before .before .before .before .pre .0)
-          (c .before .before .before .before .pre .1) .within,
+      part-of fields-at.ensures pre.0 pre.1 .order,
+      part-of fields-at.ensures pre.0 pre.1 .within,
     )
 
 returns : tie.Need-returns
 unfolding stretch
 returns c =
-    part-of (c .before .before .before .fields-at .ensures) (c .before .before .before .before .before .pre .0)
-    (c .before .before .before .before .before .pre .1) .bytes
+    let fields-at = c.before.before.before.fields-at in
+    let pre = c.before.before.before.before.before.pre in
+    part-of fields-at.ensures pre.0 pre.1 .bytes
 
 pub field-spec : {M : Type 1} → statement M
 field-spec =

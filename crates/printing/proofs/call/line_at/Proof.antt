@@ -15,66 +15,66 @@ enum-known-call c = search needs
 
 mul-t13 : tie.Need-mul-t13
 mul-t13 c =
+    let call = c.before.call in
+    let call-in = c.before.before.before.call-in in
+    let args = c.before.before.before.before.before.before.before.args in
     omega (
       arith,
-      step-arm (c .before .before .before .before .before .before .before .args .units .now)
-          (c .before .before .before .before .before .before .before .args .outputs .now)
-          (c .before .before .before .before .before .before .before .args .inputs .now)
-          (c .before .before .before .before .before .before .before .args .c) _
-          (sym (c .before .before .before .call-in .ensures) ∙ c .before .call .given .1),
+      step-arm args.units.now args.outputs.now args.inputs.now args.c _
+          (sym call-in.ensures ∙ call.given.1),
     )
 
 shared-slice-read-t15 : tie.Need-shared-slice-read-t15
 shared-slice-read-t15 c =
-    step-arm (c .before .before .before .before .before .before .before .before .args .units .now)
-    (c .before .before .before .before .before .before .before .before .args .outputs .now)
-    (c .before .before .before .before .before .before .before .before .args .inputs .now)
-    (c .before .before .before .before .before .before .before .before .args .c) _
-    (sym (c .before .before .before .before .call-in .ensures) ∙ c .before .before .call .given .1)
+    let call = c.before.before.call in
+    let call-in = c.before.before.before.before.call-in in
+    let args = c.before.before.before.before.before.before.before.before.args in
+    step-arm args.units.now args.outputs.now args.inputs.now args.c _
+    (sym call-in.ensures ∙ call.given.1)
 
 enum-known-call-2 : tie.Need-enum-known-call-2
 enum-known-call-2 c = search needs
 
 mul-t16 : tie.Need-mul-t16
 mul-t16 c =
+    let call2 = c.before.call2 in
+    let call-in = c.before.before.before.call-in in
+    let args = c.before.before.before.before.before.before.before.args in
     omega (
       arith,
-      get-arm (c .before .before .before .before .before .before .before .args .units .now)
-          (c .before .before .before .before .before .before .before .args .outputs .now)
-          (c .before .before .before .before .before .before .before .args .inputs .now)
-          (c .before .before .before .before .before .before .before .args .c) _
-          (sym (c .before .before .before .call-in .ensures) ∙ c .before .call2 .given .1),
+      get-arm args.units.now args.outputs.now args.inputs.now args.c _
+          (sym call-in.ensures ∙ call2.given.1),
     )
 
 shared-slice-read-t18 : tie.Need-shared-slice-read-t18
 shared-slice-read-t18 c =
-    get-arm (c .before .before .before .before .before .before .before .before .args .units .now)
-    (c .before .before .before .before .before .before .before .before .args .outputs .now)
-    (c .before .before .before .before .before .before .before .before .args .inputs .now)
-    (c .before .before .before .before .before .before .before .before .args .c) _
-    (sym (c .before .before .before .before .call-in .ensures) ∙ c .before .before .call2 .given .1)
+    let call2 = c.before.before.call2 in
+    let call-in = c.before.before.before.before.call-in in
+    let args = c.before.before.before.before.before.before.before.before.args in
+    get-arm args.units.now args.outputs.now args.inputs.now args.c _
+    (sym call-in.ensures ∙ call2.given.1)
 
 enum-known-call-3 : tie.Need-enum-known-call-3
 enum-known-call-3 c = search needs
 
 mul-t19 : tie.Need-mul-t19
 mul-t19 c =
+    let call3 = c.before.call3 in
+    let call-in = c.before.before.before.call-in in
+    let args = c.before.before.before.before.before.before.before.args in
     omega (
       arith,
-      set-arm (c .before .before .before .before .before .before .before .args .units .now)
-          (c .before .before .before .before .before .before .before .args .outputs .now)
-          (c .before .before .before .before .before .before .before .args .inputs .now)
-          (c .before .before .before .before .before .before .before .args .c) _
-          (sym (c .before .before .before .call-in .ensures) ∙ c .before .call3 .given .1),
+      set-arm args.units.now args.outputs.now args.inputs.now args.c _
+          (sym call-in.ensures ∙ call3.given.1),
     )
 
 shared-slice-read-t21 : tie.Need-shared-slice-read-t21
 shared-slice-read-t21 c =
-    set-arm (c .before .before .before .before .before .before .before .before .args .units .now)
-    (c .before .before .before .before .before .before .before .before .args .outputs .now)
-    (c .before .before .before .before .before .before .before .before .args .inputs .now)
-    (c .before .before .before .before .before .before .before .before .args .c) _
-    (sym (c .before .before .before .before .call-in .ensures) ∙ c .before .before .call3 .given .1)
+    let call3 = c.before.before.call3 in
+    let call-in = c.before.before.before.before.call-in in
+    let args = c.before.before.before.before.before.before.before.before.args in
+    set-arm args.units.now args.outputs.now args.inputs.now args.c _
+    (sym call-in.ensures ∙ call3.given.1)
 
 enum-told : tie.Need-enum-told
 enum-told c = search needs
@@ -82,38 +82,37 @@ enum-told c = search needs
 returns : tie.Need-returns
 unfolding lineFor
 returns c =
-    line-of (c .before .before .before .before .before .before .before .before .args .units .now)
-    (c .before .before .before .before .before .before .before .before .args .outputs .now)
-    (c .before .before .before .before .before .before .before .before .args .inputs .now)
-    (c .before .before .before .before .before .before .before .before .args .c) _
-    (sym (c .before .before .before .before .call-in .ensures) ∙ c .before .before .call .given .1)
+    let call = c.before.before.call in
+    let call-in = c.before.before.before.before.call-in in
+    let args = c.before.before.before.before.before.before.before.before.args in
+    line-of args.units.now args.outputs.now args.inputs.now args.c _
+    (sym call-in.ensures ∙ call.given.1)
 
 returns-2 : tie.Need-returns-2
 unfolding lineFor
 returns-2 c =
-    line-of (c .before .before .before .before .before .before .before .before .args .units .now)
-    (c .before .before .before .before .before .before .before .before .args .outputs .now)
-    (c .before .before .before .before .before .before .before .before .args .inputs .now)
-    (c .before .before .before .before .before .before .before .before .args .c) _
-    (sym (c .before .before .before .before .call-in .ensures) ∙ c .before .before .call2 .given .1)
+    let call2 = c.before.before.call2 in
+    let call-in = c.before.before.before.before.call-in in
+    let args = c.before.before.before.before.before.before.before.before.args in
+    line-of args.units.now args.outputs.now args.inputs.now args.c _
+    (sym call-in.ensures ∙ call2.given.1)
 
 returns-3 : tie.Need-returns-3
 unfolding lineFor
 returns-3 c =
-    line-of (c .before .before .before .before .before .before .before .before .args .units .now)
-    (c .before .before .before .before .before .before .before .before .args .outputs .now)
-    (c .before .before .before .before .before .before .before .before .args .inputs .now)
-    (c .before .before .before .before .before .before .before .before .args .c) _
-    (sym (c .before .before .before .before .call-in .ensures) ∙ c .before .before .call3 .given .1)
+    let call3 = c.before.before.call3 in
+    let call-in = c.before.before.before.before.call-in in
+    let args = c.before.before.before.before.before.before.before.before.args in
+    line-of args.units.now args.outputs.now args.inputs.now args.c _
+    (sym call-in.ensures ∙ call3.given.1)
 
 returns-4 : tie.Need-returns-4
 unfolding lineFor
 returns-4 c =
-    line-of (c .before .before .before .before .before .before .args .units .now)
-    (c .before .before .before .before .before .before .args .outputs .now)
-    (c .before .before .before .before .before .before .args .inputs .now)
-    (c .before .before .before .before .before .before .args .c) _
-    (sym (c .before .before .call-in .ensures) ∙ c .enum-told .given .1)
+    let call-in = c.before.before.call-in in
+    let args = c.before.before.before.before.before.before.args in
+    line-of args.units.now args.outputs.now args.inputs.now args.c _
+    (sym call-in.ensures ∙ c.enum-told.given.1)
 
 pub line-at-spec : {M : Type 1} → statement M
 line-at-spec =

@@ -13,16 +13,19 @@ put-byte-requires c κs = search needs
 
 same-length : tie.Need-same-length
 same-length c =
-    wrote-long
-    (ended _ (c .before .before .before .before .before .before .before .before .before .pre)
-    (c .before .before .before .before .before .before .put-number .ensures)
-    (c .before .before .put-byte .ensures))
+    let put-byte = c.before.before.put-byte in
+    let at-put-number = c.before.before.before.before.before.before in
+    let put-number = at-put-number.put-number in
+    let pre = at-put-number.before.before.before.pre in
+    wrote-long (ended _ pre put-number.ensures put-byte.ensures)
 
 returns : tie.Need-returns
 returns c =
-    ended _ (c .before .before .before .before .before .before .before .before .before .pre)
-    (c .before .before .before .before .before .before .put-number .ensures)
-    (c .before .before .put-byte .ensures)
+    let put-byte = c.before.before.put-byte in
+    let at-put-number = c.before.before.before.before.before.before in
+    let put-number = at-put-number.put-number in
+    let pre = at-put-number.before.before.before.pre in
+    ended _ pre put-number.ensures put-byte.ensures
 
 pub put-count-spec : {M : Type 1} → statement M
 put-count-spec = tie.close (tie.spec put-number-requires put-byte-requires same-length returns)

@@ -13,14 +13,19 @@ put-byte-requires c κs = search needs
 
 same-length : tie.Need-same-length
 same-length c =
-    wrote-long
-    (ended _ (c .before .before .before .before .before .before .before .before .before .before .pre)
-    (c .before .before .before .before .before .before .put .ensures) (c .before .before .put-byte .ensures))
+    let put-byte = c.before.before.put-byte in
+    let at-put = c.before.before.before.before.before.before in
+    let put = at-put.put in
+    let pre = at-put.before.before.before.before.pre in
+    wrote-long (ended _ pre put.ensures put-byte.ensures)
 
 returns : tie.Need-returns
 returns c =
-    ended _ (c .before .before .before .before .before .before .before .before .before .before .pre)
-    (c .before .before .before .before .before .before .put .ensures) (c .before .before .put-byte .ensures)
+    let put-byte = c.before.before.put-byte in
+    let at-put = c.before.before.before.before.before.before in
+    let put = at-put.put in
+    let pre = at-put.before.before.before.before.pre in
+    ended _ pre put.ensures put-byte.ensures
 
 pub put-field-spec : {M : Type 1} → statement M
 put-field-spec = tie.close (tie.spec put-requires put-byte-requires same-length returns)

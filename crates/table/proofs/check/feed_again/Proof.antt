@@ -1,3 +1,4 @@
+-- No pair passed so far is pair k.
 use Rattle.table.proofs.check.feed_again.Statement.{statement}
 use Rattle.table.proofs.check.feed_again.Tie as tie
 use borrow.Author.Needs.{needs}
@@ -36,7 +37,9 @@ is-pair-requires c κs = search needs
 
 returns : tie.Need-returns Inv-loop μ-loop
 returns c =
-    again-here _ _ _ (c .before .before .loop-test .taken) (says (c .before .is-pair .ensures) (c .if1 .taken))
+    let is-pair = c.before.is-pair in
+    let loop-test = c.before.before.loop-test in
+    again-here _ _ _ loop-test.taken (says is-pair.ensures c.if1.taken)
 
 add-j : tie.Need-add-j Inv-loop μ-loop
 add-j c = search needs
@@ -45,14 +48,13 @@ loop-less : tie.Need-loop-less Inv-loop μ-loop
 loop-less c = search needs
 
 loop-again : tie.Need-loop-again Inv-loop μ-loop
-loop-again c = (
-  search needs,
-  below-more _ _ (c .before .before .before .loop .inv .1)
-      (denies (c .before .is-pair .ensures) (c .if1 .left)),
-)
+loop-again c =
+    let is-pair = c.before.is-pair in
+    let loop = c.before.before.before.loop in
+    (search needs, below-more _ _ loop.inv.1 (denies is-pair.ensures c.if1.left))
 
 returns-2 : tie.Need-returns-2 Inv-loop μ-loop
-returns-2 c = again-not _ _ _ (c .loop-test .left) (c .before .loop .inv .1)
+returns-2 c = again-not _ _ _ c.loop-test.left c.before.loop.inv.1
 
 pub feed-again-spec : {M : Type 1} → statement M
 feed-again-spec =

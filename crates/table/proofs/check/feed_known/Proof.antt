@@ -1,3 +1,4 @@
+-- A feed is known where its input and its output are there and have one owner: a law for each.
 use borrow.Author.Needs.{needs}
 use Rattle.table.proofs.check.feed_known.Statement.{statement}
 use Rattle.table.proofs.check.feed_known.Tie as tie
@@ -20,12 +21,16 @@ byte-requires-2 c κs = search needs
 
 returns : tie.Need-returns
 returns c =
-    known-input _ _ _ _ _ _ (c .before .before .byte .ensures .0) (c .before .byte2 .ensures .0) (c .if1 .taken)
+    let byte2 = c.before.byte2 in
+    let byte = c.before.before.byte in
+    known-input _ _ _ _ _ _ byte.ensures.0 byte2.ensures.0 c.if1.taken
 
 returns-2 : tie.Need-returns-2
 returns-2 c =
-    known-output _ _ _ _ _ _ (c .before .before .before .byte .ensures .0)
-    (c .before .before .byte2 .ensures .0) (c .before .if1 .left) (c .if2 .taken)
+    let if1 = c.before.if1 in
+    let byte2 = c.before.before.byte2 in
+    let byte = c.before.before.before.byte in
+    known-output _ _ _ _ _ _ byte.ensures.0 byte2.ensures.0 if1.left c.if2.taken
 
 shared-slice-read-result : tie.Need-shared-slice-read-result
 shared-slice-read-result c = search needs
@@ -35,9 +40,11 @@ shared-slice-read-result-2 c = search needs
 
 returns-3 : tie.Need-returns-3
 returns-3 c =
-    known-owners _ _ _ _ _ _ (c .before .before .before .before .before .byte .ensures .0)
-    (c .before .before .before .before .byte2 .ensures .0) (c .before .before .before .if1 .left)
-    (c .before .before .if2 .left)
+    let if2 = c.before.before.if2 in
+    let if1 = c.before.before.before.if1 in
+    let byte2 = c.before.before.before.before.byte2 in
+    let byte = c.before.before.before.before.before.byte in
+    known-owners _ _ _ _ _ _ byte.ensures.0 byte2.ensures.0 if1.left if2.left
 
 pub feed-known-spec : {M : Type 1} → statement M
 feed-known-spec =

@@ -1,3 +1,4 @@
+-- Pair j is this one where its input and its output both are.
 use borrow.Author.Needs.{needs}
 use Rattle.table.proofs.check.is_pair.Statement.{statement}
 use Rattle.table.proofs.check.is_pair.Tie as tie
@@ -10,7 +11,7 @@ shared-slice-read-if1 : tie.Need-shared-slice-read-if1
 shared-slice-read-if1 c = search needs
 
 returns : tie.Need-returns
-returns c = pair-other (c .before .before .args .pairs .now) _ _ _ (c .if1 .taken)
+returns c = pair-other c.before.before.args.pairs.now _ _ _ c.if1.taken
 
 mul-result : tie.Need-mul-result
 mul-result c = search needs
@@ -23,8 +24,9 @@ shared-slice-read-result c = search needs
 
 returns-2 : tie.Need-returns-2
 returns-2 c =
-    pair-half (c .before .before .before .args .pairs .now) (c .before .before .before .args .j)
-    (c .before .before .before .args .input) (c .before .before .before .args .output) (c .before .if1 .left)
+    let if1 = c.before.if1 in
+    let args = c.before.before.before.args in
+    pair-half args.pairs.now args.j args.input args.output if1.left
 
 pub is-pair-spec : {M : Type 1} → statement M
 is-pair-spec =
