@@ -1,4 +1,4 @@
--- Request 07: where no call is ready and one remains the walk meets a call again; what it then lists is a cycle.
+-- Request 07: where no call is ready and one remains, the walk meets one again: a cycle.
 use mathlib.Core.Path.{_≡_, refl, sym, ap, _∙_}
 use mathlib.Core.Logic.{inl, inr}
 use mathlib.Core.Bool.{Bool, not}
@@ -34,11 +34,14 @@ module _ (N : ℕ) (pred : ℕ → ℕ → Bool) (done : ℕ → Bool) where
   seen-has (suc k) i h =
       let v = visit N pred done in
       elim (ℕ-discrete i k) [
-        | yes e ↦ or-left (eqb (v i) (v k)) (among (seen N pred done k) (v i)) (rw e (eqb-refl (v k)))
-        | no n ↦ or-right (eqb (v i) (v k)) (among (seen N pred done k) (v i)) (seen-has k i (omega arith))
+        | yes e ↦ or-left (eqb (v i) (v k)) (among (seen N pred done k) (v i))
+            (rw e (eqb-refl (v k)))
+        | no n ↦ or-right (eqb (v i) (v k)) (among (seen N pred done k) (v i))
+            (seen-has k i (omega arith))
       ]
 
-  seen-by : (k c : ℕ) → T (among (seen N pred done k) c) → (i : ℕ) × (i < k) × (visit N pred done i ≡ c)
+  seen-by : (k c : ℕ) → T (among (seen N pred done k) c)
+      → (i : ℕ) × (i < k) × (visit N pred done i ≡ c)
   seen-by zero c t = absurd t
   seen-by (suc k) c t = elim (T-or (eqb c (visit N pred done k)) (among (seen N pred done k) c) t) [
     | inl e ↦ (k, omega arith, sym (eqb→eq c (visit N pred done k) e))
@@ -62,7 +65,8 @@ module _ (N : ℕ) (pred : ℕ → ℕ → Bool) (done : ℕ → Bool) where
 
     -- there are N calls, so that among N + 1 visits two are to one call
     meets : (n k : ℕ) → n + k ≡ suc N → count (among (seen N pred done k)) N ≡ k
-        → ((i j : ℕ) → i < j → j < k → visit N pred done i ≡ visit N pred done j → ⊥) → MeetsAgain N pred done
+        → ((i j : ℕ) → i < j → j < k → visit N pred done i ≡ visit N pred done j → ⊥)
+        → MeetsAgain N pred done
     meets zero k e c new = absurd (omega (arith, count-le (among (seen N pred done k)) N))
     meets (suc n) k e c new = elim (either (among (seen N pred done k) (visit N pred done k))) [
       | inl t ↦
@@ -109,7 +113,8 @@ module _ (N : ℕ) (pred : ℕ → ℕ → Bool) (done : ℕ → Bool) where
     walk-visits (suc d) k (suc n) e f =
         walk-on N pred done n (seen N pred done k) (visit N pred done k)
         (not-T (among (seen N pred done k) (visit N pred done k))
-        (λ t. let (i, h, same) = seen-by k (visit N pred done k) t in m .new i k h (omega arith) same))
+        (λ t. let (i, h, same) = seen-by k (visit N pred done k) t in
+        m .new i k h (omega arith) same))
         ∙ walk-visits d (suc k) n (omega arith) (omega arith)
 
     pub met-visits : met N pred done ≡ take (m .again - m .first) (seen N pred done (m .again))
@@ -121,8 +126,10 @@ module _ (N : ℕ) (pred : ℕ → ℕ → Bool) (done : ℕ → Bool) where
         ∙ upto-take (seen N pred done (m .again)) (visit N pred done (m .again)) (size - 1)
         (omega (arith, seen-long (m .again), m .later))
         (seen-at (m .again) (size - 1) (m .first) (omega (arith, m .later)) ∙ sym (m .same))
-        (λ i h same. m .new (m .first) (m .again - suc i) (omega (arith, m .later)) (omega (arith, m .later))
-        (sym (m .same) ∙ sym same ∙ seen-at (m .again) i (m .again - suc i) (omega (arith, m .later))))
+        (λ i h same. m .new (m .first) (m .again - suc i) (omega (arith, m .later))
+        (omega (arith, m .later))
+        (sym (m .same) ∙ sym same
+        ∙ seen-at (m .again) i (m .again - suc i) (omega (arith, m .later))))
         ∙ ap (λ n. take n (seen N pred done (m .again))) e
 
     -- how many calls it lists
@@ -137,7 +144,8 @@ module _ (N : ℕ) (pred : ℕ → ℕ → Bool) (done : ℕ → Bool) where
     at i j e h = getD-take size (seen N pred done (m .again)) i 0 h ∙ seen-at (m .again) i j e
 
     -- the call met again comes directly before the last one visited
-    closes : (j : ℕ) → suc j ≡ m .again → T (pred (visit N pred done (m .first)) (visit N pred done j))
+    closes : (j : ℕ) → suc j ≡ m .again
+        → T (pred (visit N pred done (m .first)) (visit N pred done j))
     closes j e = rw (← (m .same), ← e) (m .back j (omega arith))
 
     listed-cycle : Cycle N pred (take size (seen N pred done (m .again)))
@@ -167,7 +175,8 @@ module _ (N : ℕ) (pred : ℕ → ℕ → Bool) (done : ℕ → Bool) where
         let a = m .again - suc i in
         let b = m .again - suc j in
         let same : visit N pred done a ≡ visit N pred done b =
-        sym (at i a (omega (arith, long)) (omega (arith, long))) ∙ e ∙ at j b (omega (arith, long)) (omega (arith, long)) in
+        sym (at i a (omega (arith, long)) (omega (arith, long))) ∙ e
+        ∙ at j b (omega (arith, long)) (omega (arith, long)) in
         elim (decLt a b) [
           | yes h ↦ absurd (m .new a b h (omega (arith, long)) same)
           | no h ↦ elim (decLt b a) [
@@ -184,7 +193,7 @@ module _ (N : ℕ) (pred : ℕ → ℕ → Bool) (done : ℕ → Bool) where
 
 -- ---- the request's theorem
 module _ (N : ℕ) (pred : ℕ → ℕ → Bool) where
-  -- whenever no call is ready and one remains, the walk from the lowest remaining call meets a call again
+  -- whenever no call is ready and one remains, the walk from the lowest one meets a call again
   pub walk-meets : (done : ℕ → Bool) → ((c : ℕ) → c < N → T (not (ready N pred done c)))
       → (c : ℕ) → c < N → T (not (done c)) → MeetsAgain N pred done
   walk-meets done none c h t =

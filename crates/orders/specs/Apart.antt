@@ -13,12 +13,17 @@ use Rattle.orders.specs.Follows.{keeps→follows, follows-length}
 
 pub keeps-length : (N : ℕ) (pred : ℕ → ℕ → Bool) (l : List ℕ) → Keeps N pred l → length l ≡ N
 keeps-length N pred l k =
-    omega (arith, follows-length N pred none l (keeps→follows N pred l k), count-none none N (λ i h. tt))
+    omega (
+      arith,
+      follows-length N pred none l (keeps→follows N pred l k),
+      count-none none N (λ i h. tt),
+    )
 
 module _ (N : ℕ) (pred : ℕ → ℕ → Bool) (l : List ℕ) (k : Keeps N pred l) (cs : List ℕ)
     (cy : Cycle N pred cs) where
   -- from the place p of the cycle's first call on, the places of its calls rise
-  rising : (p : ℕ) → p < length l → getD l p 0 ≡ getD cs 0 0 → (i q : ℕ) → i < length cs → q < length l
+  rising : (p : ℕ) → p < length l → getD l p 0 ≡ getD cs 0 0 → (i q : ℕ) → i < length cs
+      → q < length l
       → getD l q 0 ≡ getD cs i 0 → p + i ≤ q
   rising p hp ep zero q hi hq eq = omega (arith, k .once p q hp hq (ep ∙ sym eq))
   rising p hp ep (suc i) q hi hq eq =

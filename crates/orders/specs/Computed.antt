@@ -1,4 +1,4 @@
--- Orders and cycles of SPECIFICATION, Examples, computed: a definition that says something else makes one false.
+-- Orders and cycles of SPECIFICATION, Examples, computed: another definition makes one false.
 use mathlib.Core.Path.{_≡_, refl}
 use mathlib.Core.Bool.{Bool, false, _&&_, _||_}
 use mathlib.Core.List.{List, [], _∷_}
@@ -13,8 +13,8 @@ use Rattle.orders.specs.Meets.{visit, seen}
 
 -- all that orders and cycles are computed with: `unfolding words` opens each of them
 unfoldable pub words : Unit {0}
-unfolding every some leastFrom ready nextCall sort placed
-    upto lowestBefore walk lowestLeft met lowestOf lowestPlace shown visit
+unfolding every some leastFrom ready nextCall sort placed upto lowestBefore walk lowestLeft met
+    lowestOf lowestPlace shown visit
 words = tt
 
 -- the calls of each pair, the first a direct predecessor of the second
@@ -36,14 +36,14 @@ pub orders :
 unfolding words
 orders = (refl, refl)
 
--- C with feeds (0,0), (1,1), both steps placed; a call that only waits behind two that wait for each other
+-- C with feeds (0,0), (1,1), both steps placed; a call that waits behind two in a cycle
 pub cycles :
     (shown 6 (C ((4, 2) ∷ (5, 3) ∷ [])) (among (0 ∷ 1 ∷ [])) ≡ 2 ∷ 5 ∷ 3 ∷ 4 ∷ [])
     × (shown 3 (pairs ((1, 2) ∷ (2, 1) ∷ (1, 0) ∷ [])) (among []) ≡ 1 ∷ 2 ∷ [])
 unfolding words
 cycles = (refl, refl)
 
--- the visits of both walks, the newest first: the call met again is the last visited, and among those before it
+-- the visits of both walks, the newest first: the last visited call is among those before it
 pub walks :
     (seen 6 (C ((4, 2) ∷ (5, 3) ∷ [])) (among (0 ∷ 1 ∷ [])) 5 ≡ 2 ∷ 5 ∷ 3 ∷ 4 ∷ 2 ∷ [])
     × (seen 3 (pairs ((1, 2) ∷ (2, 1) ∷ (1, 0) ∷ [])) (among []) 4 ≡ 1 ∷ 2 ∷ 1 ∷ 0 ∷ [])

@@ -18,7 +18,8 @@ module _ (N : ℕ) (pred : ℕ → ℕ → Bool) where
   abbrev pub Follows : (ℕ → Bool) → List ℕ → Type 0
   Follows done [] = (c : ℕ) → c < N → T (done c)
   Follows done (c ∷ l) =
-      (c < N) × T (not (done c)) × ((a : ℕ) → a < N → T (pred a c) → T (done a)) × Follows (add c done) l
+      (c < N) × T (not (done c)) × ((a : ℕ) → a < N → T (pred a c) → T (done a))
+      × Follows (add c done) l
 
   -- such a list has as many calls as were not done
   pub follows-length : (done : ℕ → Bool) (l : List ℕ) → Follows done l → length l + count done N ≡ N
@@ -34,7 +35,8 @@ module _ (N : ℕ) (pred : ℕ → ℕ → Bool) where
     once : (i j : ℕ) → i < length l → j < length l → getD l i 0 ≡ getD l j 0 → i ≡ j
     rules : (i j : ℕ) → i < length l → j < length l → T (pred (getD l i 0) (getD l j 0)) → i < j
 
-  in-tail : (c : ℕ) (l : List ℕ) (x : ℕ) → x ≢ c → (i : ℕ) → i < length (c ∷ l) → getD (c ∷ l) i 0 ≡ x
+  in-tail : (c : ℕ) (l : List ℕ) (x : ℕ) → x ≢ c → (i : ℕ) → i < length (c ∷ l)
+      → getD (c ∷ l) i 0 ≡ x
       → (j : ℕ) × (j < length l) × (getD l j 0 ≡ x)
   in-tail c l x ne zero h e = absurd (ne (sym e))
   in-tail c l x ne (suc i) h e = (i, omega arith, e)
@@ -50,8 +52,10 @@ module _ (N : ℕ) (pred : ℕ → ℕ → Bool) where
         let (ne, f) = add-not c done x t in
         let (i, hi, e) = k .holds x h f in
         in-tail c l x ne i hi e;
-    once = λ i j hi hj e. let z = k .once (suc i) (suc j) (omega arith) (omega arith) e in omega arith;
-    rules = λ i j hi hj t. let z = k .rules (suc i) (suc j) (omega arith) (omega arith) t in omega arith;
+    once =
+        λ i j hi hj e. let z = k .once (suc i) (suc j) (omega arith) (omega arith) e in omega arith;
+    rules = λ i j hi hj t. let z = k .rules (suc i) (suc j) (omega arith) (omega arith) t in
+        omega arith;
   }
 
   from→follows : (done : ℕ → Bool) (l : List ℕ) → From done l → Follows done l
@@ -72,7 +76,8 @@ module _ (N : ℕ) (pred : ℕ → ℕ → Bool) where
   )
 
   -- ---- from calls to places
-  follows-calls : (done : ℕ → Bool) (l : List ℕ) → Follows done l → (i : ℕ) → i < length l → getD l i 0 < N
+  follows-calls : (done : ℕ → Bool) (l : List ℕ) → Follows done l → (i : ℕ) → i < length l
+      → getD l i 0 < N
   follows-calls done [] f i h = absurd (omega arith)
   follows-calls done (c ∷ l) f zero h = f .0
   follows-calls done (c ∷ l) f (suc i) h = follows-calls (add c done) l (f .3) i (omega arith)
@@ -85,12 +90,14 @@ module _ (N : ℕ) (pred : ℕ → ℕ → Bool) where
       add-not c done (getD l i 0) (follows-fresh (add c done) l (f .3) i (omega arith)) .1
 
   -- a later call is not the first one
-  follows-other : (done : ℕ → Bool) (c : ℕ) (l : List ℕ) → Follows done (c ∷ l) → (i : ℕ) → i < length l
+  follows-other : (done : ℕ → Bool) (c : ℕ) (l : List ℕ) → Follows done (c ∷ l) → (i : ℕ)
+      → i < length l
       → getD l i 0 ≢ c
   follows-other done c l f i h =
       add-not c done (getD l i 0) (follows-fresh (add c done) l (f .3) i h) .0
 
-  follows-holds : (done : ℕ → Bool) (l : List ℕ) → Follows done l → (c : ℕ) → c < N → T (not (done c))
+  follows-holds : (done : ℕ → Bool) (l : List ℕ) → Follows done l → (c : ℕ) → c < N
+      → T (not (done c))
       → (i : ℕ) × (i < length l) × (getD l i 0 ≡ c)
   follows-holds done [] f c h t = absurd (clash (done c) (f c h) t)
   follows-holds done (x ∷ l) f c h t = elim (ℕ-discrete c x) [
@@ -100,17 +107,20 @@ module _ (N : ℕ) (pred : ℕ → ℕ → Bool) where
         (suc i, omega arith, e))
   ]
 
-  follows-once : (done : ℕ → Bool) (l : List ℕ) → Follows done l → (i j : ℕ) → i < length l → j < length l
+  follows-once : (done : ℕ → Bool) (l : List ℕ) → Follows done l → (i j : ℕ) → i < length l
+      → j < length l
       → getD l i 0 ≡ getD l j 0 → i ≡ j
   follows-once done [] f i j hi hj e = absurd (omega arith)
   follows-once done (c ∷ l) f zero zero hi hj e = refl
   follows-once done (c ∷ l) f zero (suc j) hi hj e =
       absurd (follows-other done c l f j (omega arith) (sym e))
-  follows-once done (c ∷ l) f (suc i) zero hi hj e = absurd (follows-other done c l f i (omega arith) e)
+  follows-once done (c ∷ l) f (suc i) zero hi hj e =
+      absurd (follows-other done c l f i (omega arith) e)
   follows-once done (c ∷ l) f (suc i) (suc j) hi hj e =
       ap suc (follows-once (add c done) l (f .3) i j (omega arith) (omega arith) e)
 
-  follows-rules : (done : ℕ → Bool) (l : List ℕ) → Follows done l → (i j : ℕ) → i < length l → j < length l
+  follows-rules : (done : ℕ → Bool) (l : List ℕ) → Follows done l → (i j : ℕ) → i < length l
+      → j < length l
       → T (pred (getD l i 0) (getD l j 0)) → i < j
   follows-rules done [] f i j hi hj e = absurd (omega arith)
   follows-rules done (c ∷ l) f i zero hi hj t =

@@ -21,7 +21,7 @@ module _ (N : ℕ) (pred : ℕ → ℕ → Bool) (done : ℕ → Bool) where
     pub same : visit again ≡ visit first
     -- not before that visit
     pub new : (i j : ℕ) → i < j → j < again → visit i ≡ visit j → ⊥
-    -- each call on the way is one of the N, has no place, and is a direct predecessor of the one it is come from
+    -- each call on the way is one of the N, has no place, and directly precedes the one before it
     pub call : (i : ℕ) → i ≤ again → visit i < N
     pub left : (i : ℕ) → i ≤ again → T (not (done (visit i)))
     pub back : (i : ℕ) → i < again → T (pred (visit (suc i)) (visit i))

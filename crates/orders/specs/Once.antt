@@ -31,5 +31,6 @@ once-count N (c ∷ l) calls once =
     count-add (among l) c N (calls 0 (omega arith)) (first-once c l once)
     ∙ ap suc (once-count N l (λ i h. calls (suc i) (omega arith)) (rest-once c l once))
 
-pub once-most : (N : ℕ) (l : List ℕ) → ((i : ℕ) → i < length l → getD l i 0 < N) → Once l → length l ≤ N
+pub once-most : (N : ℕ) (l : List ℕ) → ((i : ℕ) → i < length l → getD l i 0 < N) → Once l
+    → length l ≤ N
 once-most N l calls once = omega (arith, count-le (among l) N, once-count N l calls once)

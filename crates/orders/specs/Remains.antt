@@ -1,4 +1,4 @@
--- What the procedure placed and what remains: where it stops early, each that remains waits for another.
+-- What is placed and what remains: where placing stops early, each that remains waits for another.
 use mathlib.Core.Path.{_≡_, refl, sym, ap, subst, _∙_, fun-ext}
 use mathlib.Core.Bool.{Bool, true, false, not, _||_, _&&_}
 use mathlib.Core.List.{List, _∷_}
@@ -36,7 +36,8 @@ both-none l = fun-ext (λ x. go (among l x))
     go false = refl
 
 -- a list of calls with one more at its front
-pub cons-calls : (N c : ℕ) (l : List ℕ) → c < N → ((i : ℕ) → i < length l → getD l i 0 < N) → (i : ℕ)
+pub cons-calls : (N c : ℕ) (l : List ℕ) → c < N → ((i : ℕ) → i < length l → getD l i 0 < N)
+    → (i : ℕ)
     → i < length (c ∷ l) → getD (c ∷ l) i 0 < N
 cons-calls N c l h f zero k = h
 cons-calls N c l h f (suc i) k = f i (omega arith)
@@ -51,11 +52,16 @@ module _ (N : ℕ) (pred : ℕ → ℕ → Bool) where
     | yes p ↦
         (let c = nextCall N pred done in
         rw (sort-step N pred n done p, both-cons c (sort N pred n (add c done)) done)
-        (omega (arith, sort-count n (add c done), count-add done c N p (next-is N pred done .is p .0))))
+        (omega (
+          arith,
+          sort-count n (add c done),
+          count-add done c N p (next-is N pred done .is p .0),
+        )))
   ]
 
   -- where none is ready, each remaining call has a remaining direct predecessor
-  pub none-ready : (done : ℕ → Bool) → ((c : ℕ) → c < N → T (not (ready N pred done c))) → Stuck N pred done
+  pub none-ready : (done : ℕ → Bool) → ((c : ℕ) → c < N → T (not (ready N pred done c)))
+      → Stuck N pred done
   none-ready done none c hc t =
       let l = lowest-is (lacks pred done c) N in
       let a = leastFrom (lacks pred done c) N 0 in
@@ -64,7 +70,8 @@ module _ (N : ℕ) (pred : ℕ → ℕ → Bool) where
         | no p ↦
             absurd
             (clash (ready N pred done c)
-            (Ready→ready N pred done c (t, λ b hb u. go (pred b c) (done b) u (l .below b (omega arith)))) (none c hc))
+            (Ready→ready N pred done c
+            (t, λ b hb u. go (pred b c) (done b) u (l .below b (omega arith)))) (none c hc))
       ]
     where
       go : (p q : Bool) → T p → T (not (p && not q)) → T q
@@ -72,7 +79,8 @@ module _ (N : ℕ) (pred : ℕ → ℕ → Bool) where
       go false q s n = absurd s
 
   sort-stuck : (n : ℕ) (done : ℕ → Bool) → N ≤ n + count done N
-      → length (sort N pred n done) + count done N < N → Stuck N pred (both (sort N pred n done) done)
+      → length (sort N pred n done) + count done N < N
+      → Stuck N pred (both (sort N pred n done) done)
   unfolding sort nextCall
   sort-stuck zero done e h = absurd (omega arith)
   sort-stuck (suc n) done e h = elim (decLt (nextCall N pred done) N) [
@@ -103,7 +111,8 @@ module _ (N : ℕ) (pred : ℕ → ℕ → Bool) where
   unfolding placed
   placed-stuck h =
       let z = count-none none N (λ i h. tt) in
-      subst (Stuck N pred) (both-none (sort N pred N none)) (sort-stuck N none (omega arith) (omega arith))
+      subst (Stuck N pred) (both-none (sort N pred N none))
+      (sort-stuck N none (omega arith) (omega arith))
 
   -- one remains
   pub left-one : length (placed N pred) < N → (c : ℕ) × (c < N) × T (not (among (placed N pred) c))
@@ -117,7 +126,8 @@ module _ (N : ℕ) (pred : ℕ → ℕ → Bool) where
             (omega (
               arith,
               placed-count,
-              count-all (among (placed N pred)) N (λ i hi. not-not (among (placed N pred) i) (l .below i (omega arith))),
+              count-all (among (placed N pred)) N
+                  (λ i hi. not-not (among (placed N pred) i) (l .below i (omega arith))),
             ))
       ]
 
@@ -127,11 +137,13 @@ module _ (N : ℕ) (pred : ℕ → ℕ → Bool) where
   unfolding sort
   sort-calls zero done i h = absurd (omega arith)
   sort-calls (suc n) done i h = elim (decLt (nextCall N pred done) N) [
-    | no p ↦ (let h′ = (rw (sort-stop N pred (suc n) done (omega arith)) at h) in absurd (omega arith))
+    | no p ↦ (let h′ = (rw (sort-stop N pred (suc n) done (omega arith)) at h) in
+        absurd (omega arith))
     | yes p ↦
         (let q = sort-step N pred n done p in
         let more = add (nextCall N pred done) done in
-        rw q (cons-calls N (nextCall N pred done) (sort N pred n more) p (sort-calls n more) i (rw q at h)))
+        rw q (cons-calls N (nextCall N pred done) (sort N pred n more) p (sort-calls n more) i
+        (rw q at h)))
   ]
 
   pub placed-calls : (i : ℕ) → i < length (placed N pred) → getD (placed N pred) i 0 < N

@@ -1,4 +1,4 @@
--- Demand 2 over any calls and any rules: all are placed exactly where there is no cycle; else one is shown.
+-- Demand 2 over any calls and rules: all are placed exactly where no cycle is; else one is shown.
 use mathlib.Core.Path.{_≡_}
 use mathlib.Core.Logic.{_↔_}
 use mathlib.Core.Bool.{Bool}
@@ -16,7 +16,8 @@ use Rattle.orders.specs.Remains.{placed-le}
 use Rattle.orders.specs.Walk.{among, met}
 use Rattle.orders.specs.Again.{placed-meets, met-cycle, met-once}
 use Rattle.orders.specs.Turn.{lowestPlace, shown}
-use Rattle.orders.specs.Turned.{Once, turn-length, turn-cycle, turn-once, lowestPlace-is, lowest-first}
+use Rattle.orders.specs.Turned.{Once, turn-length, turn-cycle}
+use Rattle.orders.specs.Turned.{turn-once, lowestPlace-is, lowest-first}
 
 module _ (N : ℕ) (pred : ℕ → ℕ → Bool) where
   -- a cycle that begins with its lowest call and has no call twice

@@ -1,4 +1,4 @@
--- The order's procedure, at each place the lowest ready call until none is: SPECIFICATION, Order and cycle 4.
+-- At each place the lowest ready call, until none is: SPECIFICATION, Order and cycle 4.
 use mathlib.Core.Bool.{Bool, not, _&&_, cond}
 use mathlib.Core.List.{List, [], _∷_}
 use Prim.Native.Nat.{ℕ, zero, suc}

@@ -40,12 +40,14 @@ module _ (N : ℕ) (pred : ℕ → ℕ → Bool) where
   unfolding ready
   Ready→ready done c (u, v) =
       and-T (not (done c)) (not (some (lacks pred done c) N)) u
-      (fails (some (lacks pred done c) N) (sym (some-no (lacks pred done c) N N (omega arith) none-left)))
+      (fails (some (lacks pred done c) N)
+      (sym (some-no (lacks pred done c) N N (omega arith) none-left)))
     where
       none-left : (a : ℕ) → a < N → T (not (lacks pred done c a))
       none-left a h = elim (either (lacks pred done c a)) [
         | inr n ↦ n
-        | inl l ↦ (let (p, q) = T-and (pred a c) (not (done a)) l in absurd (clash (done a) (v a h p) q))
+        | inl l ↦ (let (p, q) = T-and (pred a c) (not (done a)) l in
+            absurd (clash (done a) (v a h p) q))
       ]
 
   -- c is the lowest ready call, or N
@@ -63,13 +65,15 @@ module _ (N : ℕ) (pred : ℕ → ℕ → Bool) where
         is = λ h. ready→Ready done (nextCall N pred done) (l .passes h);
         least = λ a r h. elim (decLe (nextCall N pred done) a) [
           | yes p ↦ p
-          | no p ↦ absurd (clash (ready N pred done a) (Ready→ready done a r) (l .below a (omega arith)))
+          | no p ↦ absurd (clash (ready N pred done a) (Ready→ready done a r)
+              (l .below a (omega arith)))
         ];
       }
 
   -- ---- one call placed, or none ready
   pub sort-step : (n : ℕ) (done : ℕ → Bool) → nextCall N pred done < N
-      → sort N pred (suc n) done ≡ nextCall N pred done ∷ sort N pred n (add (nextCall N pred done) done)
+      → sort N pred (suc n) done ≡ nextCall N pred done
+      ∷ sort N pred n (add (nextCall N pred done) done)
   unfolding sort
   sort-step n done h = rw (lt-true (nextCall N pred done) N h, sort)
 
@@ -117,7 +121,8 @@ module _ (N : ℕ) (pred : ℕ → ℕ → Bool) where
     | yes h ↦
         (let more = add (nextCall N pred done) done in
         rw (sort-step n done h)
-        (before-cons done (nextCall N pred done) (next-is done) h (sort N pred n more) (sort-before n more) m g))
+        (before-cons done (nextCall N pred done) (next-is done) h (sort N pred n more)
+        (sort-before n more) m g))
   ]
 
   -- where all are placed, they stand in the first order

@@ -66,10 +66,14 @@ module _ (k : ℕ) (cs : List ℕ) (h : k < length cs) where
     joint : (i j : ℕ) → suc i ≡ length cs → j ≡ 0 → T (pred (getD cs i 0) (getD cs j 0))
     joint i j p q = let r : i ≡ length cs - 1 = omega arith in rw (r, q) (cy .last)
 
-    turn-next : (i : ℕ) → suc i < length cs → T (pred (getD (turn k cs) i 0) (getD (turn k cs) (suc i) 0))
+    turn-next : (i : ℕ) → suc i < length cs
+        → T (pred (getD (turn k cs) i 0) (getD (turn k cs) (suc i) 0))
     turn-next i hi = elim (decLt (k + suc i) (length cs)) [
       | yes p ↦
-          rw (turn-front i (k + i) refl (omega arith), turn-front (suc i) (suc (k + i)) (omega arith) (omega arith))
+          rw (
+            turn-front i (k + i) refl (omega arith),
+            turn-front (suc i) (suc (k + i)) (omega arith) (omega arith),
+          )
           (cy .next (k + i) (omega arith))
       | no p ↦ elim (decLt (k + i) (length cs)) [
         | yes q ↦
@@ -77,7 +81,10 @@ module _ (k : ℕ) (cs : List ℕ) (h : k < length cs) where
             (joint (k + i) 0 (omega arith) refl)
         | no q ↦
             (let j = k + i - length cs in
-            rw (turn-back i j (omega arith) (omega arith), turn-back (suc i) (suc j) (omega arith) (omega arith))
+            rw (
+              turn-back i j (omega arith) (omega arith),
+              turn-back (suc i) (suc j) (omega arith) (omega arith),
+            )
             (cy .next j (omega arith)))
       ]
     ]
@@ -85,10 +92,16 @@ module _ (k : ℕ) (cs : List ℕ) (h : k < length cs) where
     turn-last : (z : ℕ) → suc z ≡ length cs → T (pred (getD (turn k cs) z 0) (getD (turn k cs) 0 0))
     turn-last z e = elim (ℕ-discrete k 0) [
       | yes p ↦
-          rw (turn-front z z (omega arith) (omega arith), turn-front 0 0 (omega arith) (omega arith))
+          rw (
+            turn-front z z (omega arith) (omega arith),
+            turn-front 0 0 (omega arith) (omega arith),
+          )
           (joint z 0 e refl)
       | no p ↦
-          rw (turn-back z (k - 1) (omega arith) (omega arith), turn-front 0 (suc (k - 1)) (omega arith) (omega arith))
+          rw (
+            turn-back z (k - 1) (omega arith) (omega arith),
+            turn-front 0 (suc (k - 1)) (omega arith) (omega arith),
+          )
           (cy .next (k - 1) (omega arith))
     ]
 
@@ -132,7 +145,8 @@ module _ (N : ℕ) (cs : List ℕ) (some : 0 < length cs)
   unfolding lowestOf
   lowestOf-in = lowest-is (among cs) N .passes (omega (arith, lowestOf-le 0 some, calls 0 some))
 
-  pub lowestPlace-is : (lowestPlace N cs < length cs) × (getD cs (lowestPlace N cs) 0 ≡ lowestOf N cs)
+  pub lowestPlace-is : (lowestPlace N cs < length cs)
+      × (getD cs (lowestPlace N cs) 0 ≡ lowestOf N cs)
   unfolding lowestPlace
   lowestPlace-is =
       let r = lowestOf N cs in

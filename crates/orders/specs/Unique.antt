@@ -20,14 +20,16 @@ module _ (l m : List ℕ) (b : NoLater l m) (b′ : NoLater m l) (e : length l �
       go same = elim (ℕ-discrete j i) [
         | no ne ↦ same j (omega arith)
         | yes z ↦
-            rw z (le-antisymm (b i (omega arith) same) (b′ i (omega arith) (λ k hk. sym (same k hk))))
+            rw z (le-antisymm (b i (omega arith) same)
+            (b′ i (omega arith) (λ k hk. sym (same k hk))))
       ]
 
   -- two lists of one length, neither of which comes after the other, are one
   before-both : l ≡ m
   before-both = ext-getD 0 l m e (λ i h. agree (length l) (omega arith) i h)
 
-pub first-unique : (N : ℕ) (pred : ℕ → ℕ → Bool) (l m : List ℕ) → First N pred l → First N pred m → l ≡ m
+pub first-unique : (N : ℕ) (pred : ℕ → ℕ → Bool) (l m : List ℕ) → First N pred l → First N pred m
+    → l ≡ m
 first-unique N pred l m f g =
     before-both l m (f .least m (g .keeps)) (g .least l (f .keeps))
     (keeps-length N pred l (f .keeps) ∙ sym (keeps-length N pred m (g .keeps)))

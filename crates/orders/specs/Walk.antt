@@ -21,8 +21,8 @@ module _ (N : ℕ) (pred : ℕ → ℕ → Bool) (done : ℕ → Bool) where
   unfoldable pub lowestBefore : ℕ → ℕ
   lowestBefore c = leastFrom (lacks pred done c) N 0
 
-  -- on to a call where the walk has been; seen has the newest first, so it stands in precedence order;
-  -- n bounds the visits: N + 1 are enough where no call is ready and one remains (`walk-meets` of Again)
+  -- on to a call where the walk has been; seen has the newest first, so in precedence order;
+  -- n bounds the visits: N + 1 do where no call is ready and one remains (`walk-meets` of Again)
   unfoldable pub walk : ℕ → List ℕ → ℕ → List ℕ
   walk zero seen c = []
   walk (suc n) seen c = cond (among seen c) (upto c seen) (walk n (c ∷ seen) (lowestBefore c))
@@ -31,6 +31,6 @@ module _ (N : ℕ) (pred : ℕ → ℕ → Bool) (done : ℕ → Bool) where
   unfoldable pub lowestLeft : ℕ
   lowestLeft = leastFrom (λ c. not (done c)) N 0
 
-  -- where no call is ready and one remains: the call met again and those visited after it, newest first
+  -- where no call is ready and one remains: the call met again and those after it, newest first
   unfoldable pub met : List ℕ
   met = walk (suc N) [] lowestLeft

@@ -1,4 +1,4 @@
--- One visit of the backward walk; where all that remain wait for one another, it goes from one of them to another.
+-- One visit of the backward walk, and that it stays among calls that remain.
 use mathlib.Core.Path.{_≡_, sym, ap}
 use mathlib.Core.Bool.{Bool, not}
 use mathlib.Core.List.{List, [], _∷_}
@@ -37,7 +37,8 @@ upto-take (x ∷ l) c (suc p) h e b =
 module _ (N : ℕ) (pred : ℕ → ℕ → Bool) where
   -- each remaining call has a remaining direct predecessor
   abbrev pub Stuck : (ℕ → Bool) → Type 0
-  Stuck done = (c : ℕ) → c < N → T (not (done c)) → (a : ℕ) × (a < N) × T (pred a c) × T (not (done a))
+  Stuck done =
+      (c : ℕ) → c < N → T (not (done c)) → (a : ℕ) × (a < N) × T (pred a c) × T (not (done a))
 
   -- where one remains, the walk begins at one that does
   pub lowest-left : (done : ℕ → Bool) (c : ℕ) → c < N → T (not (done c))
@@ -63,5 +64,6 @@ module _ (N : ℕ) (pred : ℕ → ℕ → Bool) where
         | no p ↦
             absurd
             (let (a, ha, u, v) = stuck c h t in
-            clash (lacks pred done c a) (and-T (pred a c) (not (done a)) u v) (l .below a (omega arith)))
+            clash (lacks pred done c a) (and-T (pred a c) (not (done a)) u v)
+            (l .below a (omega arith)))
       ]

@@ -13,25 +13,29 @@ use Rattle.placing.specs.Waiting.{into, waits, Waiting}
 use Rattle.placing.proofs.Parts.{hits-same}
 
 module _ (t : List ℕ) (ok : Sound t) where
-  pub filled : (gets sets outputs′ inputs′ feeds′ : ℕ) (kinds′ owners′ pairs′ w : List ℕ) → gets ≡ units t
+  pub filled : (gets sets outputs′ inputs′ feeds′ : ℕ) (kinds′ owners′ pairs′ w : List ℕ)
+      → gets ≡ units t
       → outputs′ ≡ outputs t → sets ≡ units t + outputs t → inputs′ ≡ inputs t → feeds′ ≡ feeds t
       → kinds′ ≡ kinds t → owners′ ≡ inputOwners t → pairs′ ≡ pairs t → length w ≡ 225
       → ((c : ℕ)
       → getD w c 0
-      ≡ hits each (nth gets) outputs′ c + hits each (nth sets) inputs′ c + hits each (fed pairs′ gets) feeds′ c
+      ≡ hits each (nth gets) outputs′ c + hits each (nth sets) inputs′ c
+      + hits each (fed pairs′ gets) feeds′ c
       + hits (isKey kinds′ 1) (called owners′) (length kinds′) c
       + hits (isKey kinds′ 0) (nth sets) (length kinds′) c)
       → Waiting (shapeOf t) none w
   unfolding waits into
-  filled gets sets outputs′ inputs′ feeds′ kinds′ owners′ pairs′ w eg eo es ei ef ek ew ep l h = record {
-    long = l;
-    each = λ c. h c ∙ rw (eg, eo, es, ei, ef, ek, ew, ep, long-kinds t (ok .long), reactive c);
-  }
+  filled gets sets outputs′ inputs′ feeds′ kinds′ owners′ pairs′ w eg eo es ei ef ek ew ep l h =
+      record {
+        long = l;
+        each = λ c. h c ∙ rw (eg, eo, es, ei, ef, ek, ew, ep, long-kinds t (ok .long), reactive c);
+      }
     where
       -- the test of every call changes nothing
       reactive : (c : ℕ)
           → hits (isKey (kinds t) 1) (called (inputOwners t)) (inputs t) c
           ≡ hits (λ x. isKey (kinds t) 1 x && true) (called (inputOwners t)) (inputs t) c
       reactive c =
-          hits-same (called (inputOwners t)) (inputs t) c (isKey (kinds t) 1) (λ x. isKey (kinds t) 1 x && true)
+          hits-same (called (inputOwners t)) (inputs t) c (isKey (kinds t) 1)
+          (λ x. isKey (kinds t) 1 x && true)
           (λ x l. sym (and-true (isKey (kinds t) 1 x)))

@@ -9,7 +9,8 @@ use lib.ListN.{length, getD, set, length-set}
 use lib.Seq.{getD-set-same, getD-set-other}
 use Rattle.search.specs.Truth.{is-true, is-false, eq-false}
 use Rattle.search.specs.Count.{bit}
-use Rattle.table.specs.Packed.{units, outputs, inputs, feeds, outputOwners, inputOwners, kinds, sources, pairs, shapeOf}
+use Rattle.table.specs.Packed.{units, outputs, inputs, feeds, outputOwners}
+use Rattle.table.specs.Packed.{inputOwners, kinds, sources, pairs, shapeOf}
 use Rattle.table.specs.Sound.{Sound}
 use Rattle.table.specs.Checked.{few-calls}
 use Rattle.table.specs.Layout.{long-output-owners, long-input-owners, long-sources}
@@ -37,13 +38,15 @@ module _ (t : List ℕ) (ok : Sound t) where
   fits = few-calls t ok
 
   -- ---- what the loops over the parts hit
-  pub hits-gets : (u first : ℕ) (owners : List ℕ) → first ≡ units t → owners ≡ outputOwners t → (c : ℕ)
+  pub hits-gets : (u first : ℕ) (owners : List ℕ) → first ≡ units t → owners ≡ outputOwners t
+      → (c : ℕ)
       → hits (isKey owners u) (nth first) (length owners) c ≡ stepsToGets (shapeOf t) (only u) c
   hits-gets u first owners e f c = rw (e, f, long-output-owners t (ok .long))
 
   pub hits-delayed : (u first : ℕ) (owners kinds′ : List ℕ) → first ≡ units t + outputs t
       → owners ≡ inputOwners t → kinds′ ≡ kinds t → (c : ℕ)
-      → hits (areKeys owners u kinds′ 0) (nth first) (length owners) c ≡ stepsToSets (shapeOf t) (only u) c
+      → hits (areKeys owners u kinds′ 0) (nth first) (length owners) c
+      ≡ stepsToSets (shapeOf t) (only u) c
   hits-delayed u first owners kinds′ e f g c = rw (e, f, g, long-input-owners t (ok .long))
 
   pub hits-readers : (y first : ℕ) (sources′ : List ℕ) → y < outputs t → first ≡ units t + outputs t
@@ -54,8 +57,10 @@ module _ (t : List ℕ) (ok : Sound t) where
       rw (e, f, long-sources t (ok .long)) (sym (into-get (shapeOf t) (ok .wired) c y h))
 
   -- ---- a step: the gets of its outputs, then the sets of its delayed inputs
-  pub step-gives : (u first second : ℕ) (owners owners′ kinds′ : List ℕ) → u < units t → first ≡ units t
-      → second ≡ units t + outputs t → owners ≡ outputOwners t → owners′ ≡ inputOwners t → kinds′ ≡ kinds t
+  pub step-gives : (u first second : ℕ) (owners owners′ kinds′ : List ℕ) → u < units t
+      → first ≡ units t
+      → second ≡ units t + outputs t → owners ≡ outputOwners t → owners′ ≡ inputOwners t
+      → kinds′ ≡ kinds t
       → (c : ℕ)
       → into (shapeOf t) (only u) c
       ≡ hits (isKey owners u) (nth first) (length owners) c
@@ -65,13 +70,15 @@ module _ (t : List ℕ) (ok : Sound t) where
       ∙ omega (arith, hits-gets u first owners e g c, hits-delayed u second owners′ kinds′ f i j c)
 
   -- ---- a set: the gets of the outputs that it feeds, then the step of its unit
-  pub set-gives : (x first count : ℕ) (pairs′ : List ℕ) → x < inputs t → first ≡ units t → count ≡ feeds t
+  pub set-gives : (x first count : ℕ) (pairs′ : List ℕ) → x < inputs t → first ≡ units t
+      → count ≡ feeds t
       → pairs′ ≡ pairs t → (c : ℕ)
       → into (shapeOf t) (only (setNo (shapeOf t) x)) c
       ≡ hits (isInput pairs′ x) (fed pairs′ first) count c + ownStep (shapeOf t) x c
   set-gives x first count pairs′ h e f g c = rw (e, f, g) (into-set (shapeOf t) (ok .wired) c x h)
 
-  pub fed-fits : (first count : ℕ) (pairs′ : List ℕ) → first ≡ units t → count ≡ feeds t → pairs′ ≡ pairs t
+  pub fed-fits : (first count : ℕ) (pairs′ : List ℕ) → first ≡ units t → count ≡ feeds t
+      → pairs′ ≡ pairs t
       → (k : ℕ) → k < count → fed pairs′ first k < 225
   fed-fits first count pairs′ e f g k h =
       rw (e, g) (omega (arith, fits, ok .wired .feed-output k (omega arith)))
@@ -83,7 +90,8 @@ module _ (t : List ℕ) (ok : Sound t) where
   own-none x kind e n c = rw (← e, is-false (eqb kind 1) (eq-false kind 1 n))
 
   -- a reactive one gives its unit's step one
-  pub own-some : (x kind unit : ℕ) → kind ≡ getD (kinds t) x 0 → kind ≡ 1 → unit ≡ getD (inputOwners t) x 0
+  pub own-some : (x kind unit : ℕ) → kind ≡ getD (kinds t) x 0 → kind ≡ 1
+      → unit ≡ getD (inputOwners t) x 0
       → ownStep (shapeOf t) x unit ≡ 1
   unfolding ownStep bit
   own-some x kind unit e k f = rw (← e, k, ← f, is-true (eqb unit unit) (eqb-refl unit))
@@ -96,7 +104,8 @@ module _ (t : List ℕ) (ok : Sound t) where
     long = length-set w unit (getD w unit 0 - 1);
     less = λ c. elim (ℕ-discrete c unit) [
       | yes q ↦
-          rw (q, getD-set-same w unit (getD w unit 0 - 1) 0 h) (omega (arith, own-some x kind unit e k f))
+          rw (q, getD-set-same w unit (getD w unit 0 - 1) 0 h)
+          (omega (arith, own-some x kind unit e k f))
       | no ne ↦
           rw (
             getD-set-other w unit c (getD w unit 0 - 1) 0 ne,

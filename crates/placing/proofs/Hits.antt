@@ -33,7 +33,8 @@ module _ (q : ℕ → Bool) (at : ℕ → ℕ) where
   unfolding hits count bit
   hits-other n c ne = rw (add-one, is-false (eqb (at n) c) (eq-false (at n) c ne)) (go (q n))
     where
-      go : (b : Bool) → bit (b && false) + count (λ i. q i && eqb (at i) c) n ≡ count (λ i. q i && eqb (at i) c) n
+      go : (b : Bool) → bit (b && false) + count (λ i. q i && eqb (at i) c) n
+          ≡ count (λ i. q i && eqb (at i) c) n
       go true = omega arith
       go false = omega arith
 
@@ -49,7 +50,8 @@ module _ (q : ℕ → Bool) (at : ℕ → ℕ) where
 -- ---- both of two places hold their keys, or one does not
 
 module _ (keys : List ℕ) (key : ℕ) (others : List ℕ) (other i : ℕ) where
-  pub both-keys : getD keys i 0 ≡ key → getD others i 0 ≡ other → T (areKeys keys key others other i)
+  pub both-keys : getD keys i 0 ≡ key → getD others i 0 ≡ other
+      → T (areKeys keys key others other i)
   both-keys p q = and-T (isKey keys key i) (isKey others other i) (eq-true _ _ p) (eq-true _ _ q)
 
   pub first-other : (getD keys i 0 ≡ key → ⊥) → T (not (areKeys keys key others other i))
@@ -67,7 +69,8 @@ module _ (keys : List ℕ) (key : ℕ) (others : List ℕ) (other i : ℕ) where
 pub less-none : (q : ℕ → Bool) (at : ℕ → ℕ) (w : List ℕ) → Less (hits q at 0) w w
 less-none q at w = record { long = refl; less = λ c. omega (arith, hits-none q at c) }
 
-pub less-as : (a b : ℕ → ℕ) (high low : List ℕ) → ((c : ℕ) → a c ≡ b c) → Less a high low → Less b high low
+pub less-as : (a b : ℕ → ℕ) (high low : List ℕ) → ((c : ℕ) → a c ≡ b c) → Less a high low
+    → Less b high low
 less-as a b high low e l = record { long = l .long; less = λ c. omega (arith, l .less c, e c) }
 
 module _ (q : ℕ → Bool) (at : ℕ → ℕ) (k : ℕ) where
@@ -77,10 +80,16 @@ module _ (q : ℕ → Bool) (at : ℕ → ℕ) (k : ℕ) where
       less-as (hits q at k) (hits q at (k + 1)) high low (λ c. sym (hits-miss q at k c t))
 
   pub lower-some : (n : ℕ) (high low : List ℕ) → k < n → T (q k)
-      → ((c : ℕ) → hits q at n c ≤ getD high c 0) → Less (hits q at k) high low → 0 < getD low (at k) 0
+      → ((c : ℕ) → hits q at n c ≤ getD high c 0) → Less (hits q at k) high low
+      → 0 < getD low (at k) 0
   lower-some n high low h t enough l =
-      omega
-      (arith, l .less (at k), enough (at k), hits-hit q at k (at k) t refl, hits-more q at (k + 1) n (at k) (omega arith))
+      omega (
+        arith,
+        l .less (at k),
+        enough (at k),
+        hits-hit q at k (at k) t refl,
+        hits-more q at (k + 1) n (at k) (omega arith),
+      )
 
   pub lower-hit : (n : ℕ) (high low : List ℕ) → k < n → T (q k) → at k < length high
       → ((c : ℕ) → hits q at n c ≤ getD high c 0) → Less (hits q at k) high low
@@ -90,7 +99,12 @@ module _ (q : ℕ → Bool) (at : ℕ → ℕ) (k : ℕ) where
     less = λ c. elim (ℕ-discrete c (at k)) [
       | yes e ↦
           rw (e, getD-set-same low (at k) (getD low (at k) 0 - 1) 0 (omega (arith, l .long)))
-          (omega (arith, l .less (at k), hits-hit q at k (at k) t refl, lower-some n high low h t enough l))
+          (omega (
+            arith,
+            l .less (at k),
+            hits-hit q at k (at k) t refl,
+            lower-some n high low h t enough l,
+          ))
       | no ne ↦
           rw (getD-set-other low (at k) c (getD low (at k) 0 - 1) 0 ne)
           (omega (arith, l .less c, hits-other q at k c (λ e. ne (sym e))))
@@ -99,10 +113,16 @@ module _ (q : ℕ → Bool) (at : ℕ → ℕ) (k : ℕ) where
 
   -- ---- a loop that raises one count for each that passes
   pub raise-room : (n : ℕ) (high low : List ℕ) → k < n → T (q k)
-      → ((c : ℕ) → getD low c 0 + hits q at n c ≤ 255) → Less (hits q at k) high low → getD high (at k) 0 < 255
+      → ((c : ℕ) → getD low c 0 + hits q at n c ≤ 255) → Less (hits q at k) high low
+      → getD high (at k) 0 < 255
   raise-room n high low h t room l =
-      omega
-      (arith, l .less (at k), room (at k), hits-hit q at k (at k) t refl, hits-more q at (k + 1) n (at k) (omega arith))
+      omega (
+        arith,
+        l .less (at k),
+        room (at k),
+        hits-hit q at k (at k) t refl,
+        hits-more q at (k + 1) n (at k) (omega arith),
+      )
 
   pub raise-hit : (high low : List ℕ) → T (q k) → at k < length low → Less (hits q at k) high low
       → Less (hits q at (k + 1)) (set high (at k) (getD high (at k) 0 + 1)) low

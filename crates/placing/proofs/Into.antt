@@ -1,4 +1,4 @@
--- Laws of the direct predecessors counted rule by rule: parts, bounds, and none exactly where none precedes.
+-- The direct predecessors counted rule by rule: parts, bounds, and 0 exactly where none precedes.
 use mathlib.Core.Path.{_≡_, refl, sym, ap}
 use mathlib.Core.Bool.{Bool, true, not, _&&_, and-comm, and-true}
 use Prim.Native.Nat.{ℕ, _+_, _≤_, _<_}
@@ -9,11 +9,13 @@ use Rattle.search.specs.Sets.{add}
 use Rattle.search.specs.Count.{bit}
 use Rattle.table.specs.Shape.{Shape, total, Wired}
 use Rattle.calls.specs.Number.{getNo, setNo}
-use Rattle.calls.specs.Precedence.{Precedes, step-get, get-set, set-get, set-step, step-set, precedes}
+use Rattle.calls.specs.Precedence.{Precedes, step-get, get-set, set-get}
+use Rattle.calls.specs.Precedence.{set-step, step-set, precedes}
 use Rattle.calls.specs.Neighbours.{precedes-iff, calls-only}
 use Rattle.placing.specs.Less.{hits}
 use Rattle.placing.specs.Waiting.{only, stepsToGets, stepsToSets, into, ownStep}
-use Rattle.placing.proofs.Parts.{bit-and, hits-part, hits-same, no-hits, hits-no, hits-le, row-once, hit-at, part-of}
+use Rattle.placing.proofs.Parts.{bit-and, hits-part, hits-same, no-hits}
+use Rattle.placing.proofs.Parts.{hits-no, hits-le, row-once, hit-at, part-of}
 
 module _ (s : Shape) where
   -- placing d takes from each call's count what d gives it
@@ -25,25 +27,32 @@ module _ (s : Shape) where
       omega (
         arith,
         hits-part (getNo s) (s .outputs) c (λ y. not (done (s .outputOwner y)))
-            (λ y. not (add d done (s .outputOwner y))) (λ y. only d (s .outputOwner y)) (λ y. p (s .outputOwner y)),
+            (λ y. not (add d done (s .outputOwner y))) (λ y. only d (s .outputOwner y))
+            (λ y. p (s .outputOwner y)),
         hits-part (setNo s) (s .inputs) c (λ x. not (done (getNo s (s .source x))))
             (λ x. not (add d done (getNo s (s .source x)))) (λ x. only d (getNo s (s .source x)))
             (λ x. p (getNo s (s .source x))),
-        hits-part (λ k. getNo s (s .feedOutput k)) (s .feeds) c (λ k. not (done (setNo s (s .feedInput k))))
-            (λ k. not (add d done (setNo s (s .feedInput k)))) (λ k. only d (setNo s (s .feedInput k)))
+        hits-part (λ k. getNo s (s .feedOutput k)) (s .feeds) c
+            (λ k. not (done (setNo s (s .feedInput k))))
+            (λ k. not (add d done (setNo s (s .feedInput k))))
+            (λ k. only d (setNo s (s .feedInput k)))
             (λ k. p (setNo s (s .feedInput k))),
         hits-part (s .inputOwner) (s .inputs) c (λ x. eqb (s .kind x) 1 && not (done (setNo s x)))
-            (λ x. eqb (s .kind x) 1 && not (add d done (setNo s x))) (λ x. eqb (s .kind x) 1 && only d (setNo s x))
-            (λ x. and-bit (eqb (s .kind x) 1) (not (done (setNo s x))) (not (add d done (setNo s x)))
+            (λ x. eqb (s .kind x) 1 && not (add d done (setNo s x)))
+            (λ x. eqb (s .kind x) 1 && only d (setNo s x))
+            (λ x. and-bit (eqb (s .kind x) 1) (not (done (setNo s x)))
+            (not (add d done (setNo s x)))
             (only d (setNo s x)) (p (setNo s x))),
         hits-part (setNo s) (s .inputs) c (λ x. not (done (s .inputOwner x)) && eqb (s .kind x) 0)
             (λ x. not (add d done (s .inputOwner x)) && eqb (s .kind x) 0)
             (λ x. only d (s .inputOwner x) && eqb (s .kind x) 0)
-            (λ x. bit-and (eqb (s .kind x) 0) (not (done (s .inputOwner x))) (not (add d done (s .inputOwner x)))
+            (λ x. bit-and (eqb (s .kind x) 0) (not (done (s .inputOwner x)))
+            (not (add d done (s .inputOwner x)))
             (only d (s .inputOwner x)) (p (s .inputOwner x))),
       )
     where
-      and-bit : (e p q r : Bool) → bit p ≡ bit q + bit r → bit (e && p) ≡ bit (e && q) + bit (e && r)
+      and-bit : (e p q r : Bool) → bit p ≡ bit q + bit r
+          → bit (e && p) ≡ bit (e && q) + bit (e && r)
       and-bit e p q r h = rw (and-comm e p, and-comm e q, and-comm e r) (bit-and e p q r h)
 
   module _ (passes : ℕ → Bool) where
@@ -55,27 +64,36 @@ module _ (s : Shape) where
           arith,
           row-once (λ y. passes (s .outputOwner y)) (s .units) (s .outputs) c,
           row-once (λ x. passes (getNo s (s .source x))) (s .units + s .outputs) (s .inputs) c,
-          hits-le (λ k. getNo s (s .feedOutput k)) (s .feeds) c (λ k. passes (setNo s (s .feedInput k))),
+          hits-le (λ k. getNo s (s .feedOutput k)) (s .feeds) c
+              (λ k. passes (setNo s (s .feedInput k))),
           hits-le (s .inputOwner) (s .inputs) c (λ x. eqb (s .kind x) 1 && passes (setNo s x)),
-          row-once (λ x. passes (s .inputOwner x) && eqb (s .kind x) 0) (s .units + s .outputs) (s .inputs) c,
+          row-once (λ x. passes (s .inputOwner x) && eqb (s .kind x) 0) (s .units + s .outputs)
+              (s .inputs) c,
         )
 
     -- a count of 0 leaves no direct predecessor that passes
     pub into-none : (c : ℕ) → into s passes c ≡ 0 → (a : ℕ) → Precedes s a c → T (passes a) → ⊥
     unfolding into
     into-none c e a (step-get y h p q) t =
-        hits-no (getNo s) (s .outputs) c (λ y. passes (s .outputOwner y)) (omega arith) y h (rw (← p) t) (sym q)
+        hits-no (getNo s) (s .outputs) c (λ y. passes (s .outputOwner y)) (omega arith) y h
+        (rw (← p) t) (sym q)
     into-none c e a (get-set x h p q) t =
-        hits-no (setNo s) (s .inputs) c (λ x. passes (getNo s (s .source x))) (omega arith) x h (rw (← p) t) (sym q)
+        hits-no (setNo s) (s .inputs) c (λ x. passes (getNo s (s .source x))) (omega arith) x h
+        (rw (← p) t) (sym q)
     into-none c e a (set-get k h p q) t =
-        hits-no (λ k. getNo s (s .feedOutput k)) (s .feeds) c (λ k. passes (setNo s (s .feedInput k)))
+        hits-no (λ k. getNo s (s .feedOutput k)) (s .feeds) c
+        (λ k. passes (setNo s (s .feedInput k)))
         (omega arith) k h (rw (← p) t) (sym q)
     into-none c e a (set-step x h k p q) t =
-        hits-no (s .inputOwner) (s .inputs) c (λ x. eqb (s .kind x) 1 && passes (setNo s x)) (omega arith) x h
-        (and-T (eqb (s .kind x) 1) (passes (setNo s x)) (eq-true (s .kind x) 1 k) (rw (← p) t)) (sym q)
+        hits-no (s .inputOwner) (s .inputs) c (λ x. eqb (s .kind x) 1 && passes (setNo s x))
+        (omega arith) x h
+        (and-T (eqb (s .kind x) 1) (passes (setNo s x)) (eq-true (s .kind x) 1 k) (rw (← p) t))
+        (sym q)
     into-none c e a (step-set x h k p q) t =
-        hits-no (setNo s) (s .inputs) c (λ x. passes (s .inputOwner x) && eqb (s .kind x) 0) (omega arith) x h
-        (and-T (passes (s .inputOwner x)) (eqb (s .kind x) 0) (rw (← p) t) (eq-true (s .kind x) 0 k)) (sym q)
+        hits-no (setNo s) (s .inputs) c (λ x. passes (s .inputOwner x) && eqb (s .kind x) 0)
+        (omega arith) x h
+        (and-T (passes (s .inputOwner x)) (eqb (s .kind x) 0) (rw (← p) t)
+        (eq-true (s .kind x) 0 k)) (sym q)
 
     -- and where there is none, the count is 0
     pub none-into : (c : ℕ) → ((a : ℕ) → Precedes s a c → T (passes a) → ⊥) → into s passes c ≡ 0
@@ -87,7 +105,8 @@ module _ (s : Shape) where
               (λ y h t q. n (s .outputOwner y) (step-get y h refl (sym q)) t),
           no-hits (setNo s) (s .inputs) c (λ x. passes (getNo s (s .source x)))
               (λ x h t q. n (getNo s (s .source x)) (get-set x h refl (sym q)) t),
-          no-hits (λ k. getNo s (s .feedOutput k)) (s .feeds) c (λ k. passes (setNo s (s .feedInput k)))
+          no-hits (λ k. getNo s (s .feedOutput k)) (s .feeds) c
+              (λ k. passes (setNo s (s .feedInput k)))
               (λ k h t q. n (setNo s (s .feedInput k)) (set-get k h refl (sym q)) t),
           no-hits (s .inputOwner) (s .inputs) c (λ x. eqb (s .kind x) 1 && passes (setNo s x))
               (λ x h t q. let (a, b) = T-and (eqb (s .kind x) 1) (passes (setNo s x)) t in
@@ -100,7 +119,8 @@ module _ (s : Shape) where
     -- nothing precedes what is no call
     pub into-past : Wired s → (c : ℕ) → total s ≤ c → into s passes c ≡ 0
     into-past ok c h =
-        none-into c (λ a p t. let (x, y) = calls-only s a c (precedes-iff s ok a c .0 p) in omega arith)
+        none-into c (λ a p t. let (x, y) = calls-only s a c (precedes-iff s ok a c .0 p) in
+        omega arith)
 
 -- ---- what one call gives: by its kind
 
@@ -113,17 +133,22 @@ shifted n a b =
 
 module _ (s : Shape) (ok : Wired s) (c : ℕ) where
   -- a step: the gets of its unit's outputs and the sets of its delayed inputs
-  pub into-step : (u : ℕ) → u < s .units → into s (only u) c ≡ stepsToGets s (only u) c + stepsToSets s (only u) c
+  pub into-step : (u : ℕ) → u < s .units
+      → into s (only u) c ≡ stepsToGets s (only u) c + stepsToSets s (only u) c
   unfolding into
   into-step u h =
       omega (
         arith,
         no-hits (setNo s) (s .inputs) c (λ x. only u (getNo s (s .source x)))
             (λ x l t q. omega (arith, eqb→eq (getNo s (s .source x)) u t)),
-        no-hits (λ k. getNo s (s .feedOutput k)) (s .feeds) c (λ k. only u (setNo s (s .feedInput k)))
+        no-hits (λ k. getNo s (s .feedOutput k)) (s .feeds) c
+            (λ k. only u (setNo s (s .feedInput k)))
             (λ k l t q. omega (arith, eqb→eq (setNo s (s .feedInput k)) u t)),
         no-hits (s .inputOwner) (s .inputs) c (λ x. eqb (s .kind x) 1 && only u (setNo s x))
-            (λ x l t q. omega (arith, eqb→eq (setNo s x) u (T-and (eqb (s .kind x) 1) (only u (setNo s x)) t .1))),
+            (λ x l t q. omega (
+              arith,
+              eqb→eq (setNo s x) u (T-and (eqb (s .kind x) 1) (only u (setNo s x)) t .1),
+            )),
       )
 
   -- a get: the sets of the inputs joined to it
@@ -136,15 +161,25 @@ module _ (s : Shape) (ok : Wired s) (c : ℕ) where
         arith,
         no-hits (getNo s) (s .outputs) c (λ z. only d (s .outputOwner z))
             (λ z l t q. omega (arith, ok .output-owned z l, eqb→eq (s .outputOwner z) d t)),
-        hits-same (setNo s) (s .inputs) c (λ x. only d (getNo s (s .source x))) (λ x. eqb (s .source x) y)
+        hits-same (setNo s) (s .inputs) c (λ x. only d (getNo s (s .source x)))
+            (λ x. eqb (s .source x) y)
             (λ x l. shifted (s .units) (s .source x) y),
-        no-hits (λ k. getNo s (s .feedOutput k)) (s .feeds) c (λ k. only d (setNo s (s .feedInput k)))
+        no-hits (λ k. getNo s (s .feedOutput k)) (s .feeds) c
+            (λ k. only d (setNo s (s .feedInput k)))
             (λ k l t q. omega (arith, eqb→eq (setNo s (s .feedInput k)) d t)),
         no-hits (s .inputOwner) (s .inputs) c (λ x. eqb (s .kind x) 1 && only d (setNo s x))
-            (λ x l t q. omega (arith, eqb→eq (setNo s x) d (T-and (eqb (s .kind x) 1) (only d (setNo s x)) t .1))),
+            (λ x l t q. omega (
+              arith,
+              eqb→eq (setNo s x) d (T-and (eqb (s .kind x) 1) (only d (setNo s x)) t .1),
+            )),
         no-hits (setNo s) (s .inputs) c (λ x. only d (s .inputOwner x) && eqb (s .kind x) 0)
             (λ x l t q.
-            omega (arith, ok .input-owned x l, eqb→eq (s .inputOwner x) d (T-and (only d (s .inputOwner x)) (eqb (s .kind x) 0) t .0))),
+            omega (
+              arith,
+              ok .input-owned x l,
+              eqb→eq (s .inputOwner x) d
+                  (T-and (only d (s .inputOwner x)) (eqb (s .kind x) 0) t .0),
+            )),
       )
 
   -- a set: the gets of the outputs that it feeds, and the step of its unit where it is reactive
@@ -161,14 +196,25 @@ module _ (s : Shape) (ok : Wired s) (c : ℕ) where
             (λ z l t q. omega (arith, ok .output-owned z l, eqb→eq (s .outputOwner z) d t)),
         no-hits (setNo s) (s .inputs) c (λ z. only d (getNo s (s .source z)))
             (λ z l t q. omega (arith, ok .sourced z l, eqb→eq (getNo s (s .source z)) d t)),
-        hits-same (λ k. getNo s (s .feedOutput k)) (s .feeds) c (λ k. only d (setNo s (s .feedInput k)))
-            (λ k. eqb (s .feedInput k) x) (λ k l. shifted (s .units + s .outputs) (s .feedInput k) x),
+        hits-same (λ k. getNo s (s .feedOutput k)) (s .feeds) c
+            (λ k. only d (setNo s (s .feedInput k)))
+            (λ k. eqb (s .feedInput k) x)
+            (λ k l. shifted (s .units + s .outputs) (s .feedInput k) x),
         hit-at (λ z. eqb (s .kind z) 1 && only d (setNo s z)) (s .inputOwner) (s .inputs) c x h
-            (λ z l t. omega (arith, eqb→eq (setNo s z) d (T-and (eqb (s .kind z) 1) (only d (setNo s z)) t .1))),
-        ap bit (own (eqb (s .kind x) 1) (only d d) (eqb (s .inputOwner x) c) (is-true (only d d) (eqb-refl d))),
+            (λ z l t. omega (
+              arith,
+              eqb→eq (setNo s z) d (T-and (eqb (s .kind z) 1) (only d (setNo s z)) t .1),
+            )),
+        ap bit (own (eqb (s .kind x) 1) (only d d) (eqb (s .inputOwner x) c)
+            (is-true (only d d) (eqb-refl d))),
         no-hits (setNo s) (s .inputs) c (λ z. only d (s .inputOwner z) && eqb (s .kind z) 0)
             (λ z l t q.
-            omega (arith, ok .input-owned z l, eqb→eq (s .inputOwner z) d (T-and (only d (s .inputOwner z)) (eqb (s .kind z) 0) t .0))),
+            omega (
+              arith,
+              ok .input-owned z l,
+              eqb→eq (s .inputOwner z) d
+                  (T-and (only d (s .inputOwner z)) (eqb (s .kind z) 0) t .0),
+            )),
       )
     where
       own : (k e o : Bool) → e ≡ true → ((k && e) && o) ≡ (k && o)

@@ -1,3 +1,4 @@
+-- Laws of waiting counts and of what is placed; and what the contract of `place_all` settles.
 pub mod Hits
 pub mod Parts
 pub mod Into

@@ -28,10 +28,12 @@ module _ (call : ℕ → ℕ) (n c : ℕ) where
       → hits p call n c ≡ hits q call n c + hits r call n c
   unfolding hits
   hits-part p q r h =
-      count-part (λ i. p i && eqb (call i) c) (λ i. q i && eqb (call i) c) (λ i. r i && eqb (call i) c) n
+      count-part (λ i. p i && eqb (call i) c) (λ i. q i && eqb (call i) c)
+      (λ i. r i && eqb (call i) c) n
       (λ i. bit-and (eqb (call i) c) (p i) (q i) (r i) (h i))
 
-  pub hits-same : (p q : ℕ → Bool) → ((i : ℕ) → i < n → p i ≡ q i) → hits p call n c ≡ hits q call n c
+  pub hits-same : (p q : ℕ → Bool) → ((i : ℕ) → i < n → p i ≡ q i)
+      → hits p call n c ≡ hits q call n c
   unfolding hits
   hits-same p q h =
       count-same (λ i. p i && eqb (call i) c) (λ i. q i && eqb (call i) c) n

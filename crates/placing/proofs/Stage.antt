@@ -8,7 +8,8 @@ use native.Mathlib.Numerals.{add-one}
 use native.Mathlib.Omega.{arith}
 use native.Mathlib.Decide.{ℕ-discrete, decLt}
 use lib.Dec.{T, eqb, eqb→eq}
-use lib.ListN.{length, getD, set, take, replicate, length-set, length-replicate, getD-replicate, List·getD-eq-default}
+use lib.ListN.{length, getD, set, take, replicate, length-set}
+use lib.ListN.{length-replicate, getD-replicate, List·getD-eq-default}
 use lib.Seq.{take-suc-set, getD-set-same, getD-set-other}
 use Rattle.search.specs.Truth.{either, clash, is-true, is-false, eq-true, same-test}
 use Rattle.search.specs.Sets.{none, add, add-self, add-other, add-cases, add-more}
@@ -57,7 +58,8 @@ module _ (s : Shape) (ok : Wired s) (done : ℕ → Bool) where
   left-waits c t = rw (is-false (done c) t)
 
   pub ready-waits : (c : ℕ) → ready (total s) (precedes s) done c ≡ eqb (waits s done c) 0
-  ready-waits c = same-test (ready (total s) (precedes s) done c) (eqb (waits s done c) 0) there back
+  ready-waits c =
+      same-test (ready (total s) (precedes s) done c) (eqb (waits s done c) 0) there back
     where
       there : T (ready (total s) (precedes s) done c) → T (eqb (waits s done c) 0)
       there r =
@@ -79,14 +81,16 @@ module _ (s : Shape) (ok : Wired s) (done : ℕ → Bool) where
                 | inl d ↦ d
                 | inr d ↦
                     absurd
-                    (into-none s (λ a. not (done a)) c (sym (left-waits c t) ∙ eqb→eq (waits s done c) 0 z) a
+                    (into-none s (λ a. not (done a)) c
+                    (sym (left-waits c t) ∙ eqb→eq (waits s done c) 0 z) a
                     (precedes-iff s ok a c .1 p) d)
               ],
             )
       ]
 
 -- two tests that agree below n have one lowest
-pub lowest-same : (p q : ℕ → Bool) (n : ℕ) → ((i : ℕ) → i < n → p i ≡ q i) → leastFrom p n 0 ≡ leastFrom q n 0
+pub lowest-same : (p q : ℕ → Bool) (n : ℕ) → ((i : ℕ) → i < n → p i ≡ q i)
+    → leastFrom p n 0 ≡ leastFrom q n 0
 lowest-same p q n h =
     let l = lowest-is p n in
     lowest-one q n (leastFrom p n 0) (leastFrom q n 0)
@@ -102,33 +106,40 @@ pub zeros : (n c : ℕ) → _≡_ {A = ℕ} (getD (replicate n 0) c 0) 0
 zeros n c = elim (decLt c n) [
   | yes h ↦ getD-replicate {A = ℕ} n c 0 0 h
   | no h ↦
-      List·getD-eq-default {A = ℕ} (replicate n 0) 0 {n = c} (rw (length-replicate {A = ℕ} n 0) (omega arith))
+      List·getD-eq-default {A = ℕ} (replicate n 0) 0 {n = c}
+      (rw (length-replicate {A = ℕ} n 0) (omega arith))
 ]
 
 -- ---- the loop
 module _ (t : List ℕ) where
-  -- k calls stand in their order, the counts are those of what is left, and what is placed has its predecessors
+  -- k calls stand in their order; the counts are of what is left; what is placed has all before it
   pub record Stage (calls₀ calls counts : List ℕ) (k : ℕ) : Type 0 where
     pub most : k ≤ callCount t
-    pub front : Fronting (placedOf t) (sort (callCount t) (precedes (shapeOf t)) ((callCount t) - k) (among (take k calls))) calls₀ calls k
+    pub front : Fronting (placedOf t)
+        (sort (callCount t) (precedes (shapeOf t)) ((callCount t) - k) (among (take k calls)))
+        calls₀ calls k
     pub waiting : Waiting (shapeOf t) (among (take k calls)) counts
     pub known : (c : ℕ) → T (among (take k calls) c) → c < callCount t
-    pub closed : (a c : ℕ) → T (among (take k calls) c) → T (precedes (shapeOf t) a c) → T (among (take k calls) a)
+    pub closed : (a c : ℕ) → T (among (take k calls) c) → T (precedes (shapeOf t) a c)
+        → T (among (take k calls) a)
 
 module _ (t : List ℕ) (ok : Sound t) where
-  pub stage-starts : (calls counts : List ℕ) → Waiting (shapeOf t) none counts → Stage t calls calls counts 0
+  pub stage-starts : (calls counts : List ℕ) → Waiting (shapeOf t) none counts
+      → Stage t calls calls counts 0
   unfolding placedOf placed
   stage-starts calls counts w = record {
     most = omega arith;
     front =
-        let e : (callCount t) - 0 ≡ (callCount t) = omega arith in rw e (fronting-starts (placedOf t) calls);
+        let e : (callCount t) - 0 ≡ (callCount t) =
+        omega arith in rw e (fronting-starts (placedOf t) calls);
     waiting = w;
     known = λ c z. absurd z;
     closed = λ a c z. absurd z;
   }
 
   -- the 0 behind the last call
-  pub stage-last : (calls₀ calls counts : List ℕ) (k : ℕ) → Stage t calls₀ calls counts k → getD counts (callCount t) 0 ≡ 0
+  pub stage-last : (calls₀ calls counts : List ℕ) (k : ℕ) → Stage t calls₀ calls counts k
+      → getD counts (callCount t) 0 ≡ 0
   stage-last calls₀ calls counts k g = g .waiting .each (callCount t) ∙ go
     where
       go : waits (shapeOf t) (among (take k calls)) (callCount t) ≡ 0
@@ -136,26 +147,33 @@ module _ (t : List ℕ) (ok : Sound t) where
         | inl z ↦ absurd (let h = g .known (callCount t) z in omega arith)
         | inr z ↦
             left-waits (shapeOf t) (ok .wired) (among (take k calls)) (callCount t) z
-            ∙ into-past (shapeOf t) (λ a. not (among (take k calls) a)) (ok .wired) (callCount t) (omega arith)
+            ∙ into-past (shapeOf t) (λ a. not (among (take k calls) a)) (ok .wired) (callCount t)
+            (omega arith)
       ]
 
   -- the lowest call that waits for none is the lowest ready call
   pub stage-next : (calls₀ calls counts : List ℕ) (k : ℕ) → Stage t calls₀ calls counts k
-      → leastFrom (isKey counts 0) (callCount t) 0 ≡ nextCall (callCount t) (precedes (shapeOf t)) (among (take k calls))
+      → leastFrom (isKey counts 0) (callCount t) 0
+      ≡ nextCall (callCount t) (precedes (shapeOf t)) (among (take k calls))
   unfolding nextCall
   stage-next calls₀ calls counts k g =
-      lowest-same (isKey counts 0) (ready (callCount t) (precedes (shapeOf t)) (among (take k calls))) (callCount t)
-      (λ c h. ap (λ n. eqb n 0) (g .waiting .each c) ∙ sym (ready-waits (shapeOf t) (ok .wired) (among (take k calls)) c))
+      lowest-same (isKey counts 0)
+      (ready (callCount t) (precedes (shapeOf t)) (among (take k calls))) (callCount t)
+      (λ c h. ap (λ n. eqb n 0) (g .waiting .each c)
+      ∙ sym (ready-waits (shapeOf t) (ok .wired) (among (take k calls)) c))
 
   module _ (calls₀ calls counts : List ℕ) (k c : ℕ) (g : Stage t calls₀ calls counts k)
-      (e : c ≡ nextCall (callCount t) (precedes (shapeOf t)) (among (take k calls))) (h : c < (callCount t)) where
+      (e : c ≡ nextCall (callCount t) (precedes (shapeOf t)) (among (take k calls)))
+      (h : c < (callCount t)) where
     -- the call placed is new, and its predecessors are placed
     new : T (not (among (take k calls) c))
-    new = rw e (next-is (callCount t) (precedes (shapeOf t)) (among (take k calls)) .is (rw (← e) h) .0)
+    new = rw e (next-is (callCount t) (precedes (shapeOf t)) (among (take k calls)) .is
+        (rw (← e) h) .0)
 
     after : (a : ℕ) → T (precedes (shapeOf t) a c) → T (among (take k calls) a)
     after a p =
-        next-is (callCount t) (precedes (shapeOf t)) (among (take k calls)) .is (rw (← e) h) .1 a (calls-only (shapeOf t) a c p .0) (rw (← e) p)
+        next-is (callCount t) (precedes (shapeOf t)) (among (take k calls)) .is (rw (← e) h) .1 a
+        (calls-only (shapeOf t) a c p .0) (rw (← e) p)
 
     -- it gives nothing to a call that is placed
     to-placed : (x : ℕ) → T (add c (among (take k calls)) x) → into (shapeOf t) (only c) x ≡ 0
@@ -166,7 +184,8 @@ module _ (t : List ℕ) (ok : Sound t) where
         subst (λ b. T (precedes (shapeOf t) b x)) (eqb→eq a c q)
         (precedes-iff (shapeOf t) (ok .wired) a x .0 p) in
         elim (add-cases c (among (take k calls)) x z) [
-          | inl y ↦ clash (precedes (shapeOf t) c c) (subst (λ b. T (precedes (shapeOf t) c b)) y r) (not-self (shapeOf t) c)
+          | inl y ↦ clash (precedes (shapeOf t) c c) (subst (λ b. T (precedes (shapeOf t) c b)) y r)
+              (not-self (shapeOf t) c)
           | inr y ↦ clash (among (take k calls) c) (g .closed c x y r) new
         ])
 
@@ -174,20 +193,23 @@ module _ (t : List ℕ) (ok : Sound t) where
     stage-long = length-set counts c 255 ∙ g .waiting .long
 
     -- the counts with the call marked
-    marked : (x : ℕ) → getD (set counts c 255) x 0 ≡ waits (shapeOf t) (add c (among (take k calls))) x + into (shapeOf t) (only c) x
+    marked : (x : ℕ) → getD (set counts c 255) x 0
+        ≡ waits (shapeOf t) (add c (among (take k calls))) x + into (shapeOf t) (only c) x
     marked x = elim (ℕ-discrete x c) [
       | yes y ↦
           rw (y, getD-set-same counts c 255 0 (omega (arith, g .waiting .long, few-calls t ok)))
           (omega (
             arith,
-            done-waits (shapeOf t) (ok .wired) (add c (among (take k calls))) c (add-self c (among (take k calls))),
+            done-waits (shapeOf t) (ok .wired) (add c (among (take k calls))) c
+                (add-self c (among (take k calls))),
             to-placed c (add-self c (among (take k calls))),
           ))
       | no ne ↦ rw (getD-set-other counts c x 255 0 ne) (g .waiting .each x ∙ other ne)
     ]
       where
         other : x ≢ c
-            → waits (shapeOf t) (among (take k calls)) x ≡ waits (shapeOf t) (add c (among (take k calls))) x + into (shapeOf t) (only c) x
+            → waits (shapeOf t) (among (take k calls)) x
+            ≡ waits (shapeOf t) (add c (among (take k calls))) x + into (shapeOf t) (only c) x
         other ne = elim (either (among (take k calls) x)) [
           | inl z ↦
               (let z′ = add-more c (among (take k calls)) x z in
@@ -210,7 +232,8 @@ module _ (t : List ℕ) (ok : Sound t) where
     pub stage-room : (x : ℕ) → into (shapeOf t) (only c) x ≤ getD (set counts c 255) x 0
     stage-room x = omega (arith, marked x)
 
-    pub stage-on : (counts′ : List ℕ) → (callCount t) ≤ length calls₀ → k < (callCount t) → Less (into (shapeOf t) (only c)) (set counts c 255) counts′
+    pub stage-on : (counts′ : List ℕ) → (callCount t) ≤ length calls₀ → k < (callCount t)
+        → Less (into (shapeOf t) (only c)) (set counts c 255) counts′
         → Stage t calls₀ (set calls k c) counts′ (k + 1)
     stage-on counts′ room hk l =
         let fits : k < length calls = omega (arith, g .front .long) in
@@ -220,8 +243,10 @@ module _ (t : List ℕ) (ok : Sound t) where
           front =
               rw m
               (fronting-on (placedOf t)
-              (sort (callCount t) (precedes (shapeOf t)) ((callCount t) - (k + 1)) (add c (among (take k calls))))
-              calls₀ calls k c fits (subst (λ r. Fronting (placedOf t) r calls₀ calls k) step (g .front)));
+              (sort (callCount t) (precedes (shapeOf t)) ((callCount t) - (k + 1))
+              (add c (among (take k calls))))
+              calls₀ calls k c fits (subst (λ r. Fronting (placedOf t) r calls₀ calls k) step
+              (g .front)));
           waiting = record {
             long = l .long ∙ stage-long;
             each = λ x. omega (arith, l .less x, marked x, ap (λ d. waits (shapeOf t) d x) m);
@@ -239,37 +264,51 @@ module _ (t : List ℕ) (ok : Sound t) where
         }
       where
         step : sort (callCount t) (precedes (shapeOf t)) ((callCount t) - k) (among (take k calls))
-            ≡ c ∷ sort (callCount t) (precedes (shapeOf t)) ((callCount t) - (k + 1)) (add c (among (take k calls)))
+            ≡ c ∷ sort (callCount t) (precedes (shapeOf t)) ((callCount t) - (k + 1))
+            (add c (among (take k calls)))
         step =
             let n : (callCount t) - k ≡ suc ((callCount t) - (k + 1)) = omega arith in
-            rw (n, e) (sort-step (callCount t) (precedes (shapeOf t)) ((callCount t) - (k + 1)) (among (take k calls)) (rw (← e) h))
+            rw (n, e) (sort-step (callCount t) (precedes (shapeOf t)) ((callCount t) - (k + 1))
+            (among (take k calls)) (rw (← e) h))
 
   -- ---- where the loop ends
   module _ (calls₀ calls counts : List ℕ) (k : ℕ) (g : Stage t calls₀ calls counts k) where
-    pub stage-stops : (callCount t) ≡ nextCall (callCount t) (precedes (shapeOf t)) (among (take k calls))
+    pub stage-stops : (callCount t)
+        ≡ nextCall (callCount t) (precedes (shapeOf t)) (among (take k calls))
         → (k ≡ length (placedOf t)) × (calls ≡ fronted (placedOf t) calls₀)
     stage-stops e =
-        fronting-ends (placedOf t) (sort (callCount t) (precedes (shapeOf t)) ((callCount t) - k) (among (take k calls))) calls₀ calls k (g .front)
-        (sort-stop (callCount t) (precedes (shapeOf t)) ((callCount t) - k) (among (take k calls)) (omega arith))
+        fronting-ends (placedOf t)
+        (sort (callCount t) (precedes (shapeOf t)) ((callCount t) - k) (among (take k calls)))
+        calls₀ calls k (g .front)
+        (sort-stop (callCount t) (precedes (shapeOf t)) ((callCount t) - k) (among (take k calls))
+        (omega arith))
 
-    pub stage-ends : (callCount t) ≤ k → (k ≡ length (placedOf t)) × (calls ≡ fronted (placedOf t) calls₀)
+    pub stage-ends : (callCount t) ≤ k
+        → (k ≡ length (placedOf t)) × (calls ≡ fronted (placedOf t) calls₀)
     stage-ends h =
         let n : (callCount t) - k ≡ 0 = omega arith in
-        fronting-ends (placedOf t) (sort (callCount t) (precedes (shapeOf t)) ((callCount t) - k) (among (take k calls))) calls₀ calls k (g .front)
+        fronting-ends (placedOf t)
+        (sort (callCount t) (precedes (shapeOf t)) ((callCount t) - k) (among (take k calls)))
+        calls₀ calls k (g .front)
         (rw n (sort-none (callCount t) (precedes (shapeOf t)) (among (take k calls))))
 
 -- ---- the search for the lowest 0, which stands before the one behind the last call
-pub zero-found : (counts : List ℕ) (n c : ℕ) → c ≤ n → ((k : ℕ) → k < c → T (not (isKey counts 0 k)))
+pub zero-found : (counts : List ℕ) (n c : ℕ) → c ≤ n
+    → ((k : ℕ) → k < c → T (not (isKey counts 0 k)))
     → getD counts c 0 ≡ 0 → c ≡ leastFrom (isKey counts 0) n 0
 zero-found counts n c h b e =
     lowest-one (isKey counts 0) n c (leastFrom (isKey counts 0) n 0)
-    (record { high = h; passes = λ g. eq-true (getD counts c 0) 0 e; below = b }) (lowest-is (isKey counts 0) n)
+    (record { high = h; passes = λ g. eq-true (getD counts c 0) 0 e; below = b })
+    (lowest-is (isKey counts 0) n)
 
-pub zero-behind : (counts : List ℕ) (n c : ℕ) → getD counts n 0 ≡ 0 → c ≤ n → (getD counts c 0 ≡ 0 → ⊥) → c < n
-zero-behind counts n c z h e = elim (ℕ-discrete c n) [ yes p ↦ absurd (e (rw p z)) | no p ↦ omega arith ]
+pub zero-behind : (counts : List ℕ) (n c : ℕ) → getD counts n 0 ≡ 0 → c ≤ n
+    → (getD counts c 0 ≡ 0 → ⊥) → c < n
+zero-behind counts n c z h e =
+    elim (ℕ-discrete c n) [ yes p ↦ absurd (e (rw p z)) | no p ↦ omega arith ]
 
 -- none below c passes, nor c, nor the next
-pub two-more : (q : ℕ → Bool) (c : ℕ) → ((k : ℕ) → k < c → T (not (q k))) → T (not (q c)) → T (not (q (c + 1)))
+pub two-more : (q : ℕ → Bool) (c : ℕ) → ((k : ℕ) → k < c → T (not (q k))) → T (not (q c))
+    → T (not (q (c + 1)))
     → (k : ℕ) → k < c + 2 → T (not (q k))
 two-more q c b p r k h = elim (ℕ-discrete k (c + 1)) [
   | yes e ↦ rw e r
@@ -277,14 +316,21 @@ two-more q c b p r k h = elim (ℕ-discrete k (c + 1)) [
 ]
 
 -- ---- the call that the search chooses
-module _ (t : List ℕ) (ok : Sound t) (calls₀ calls counts : List ℕ) (k : ℕ) (g : Stage t calls₀ calls counts k)
+module _ (t : List ℕ) (ok : Sound t) (calls₀ calls counts : List ℕ) (k : ℕ)
+    (g : Stage t calls₀ calls counts k)
     (n c : ℕ) (e : n ≡ callCount t) (f : c ≡ leastFrom (isKey counts 0) n 0) where
   pub chosen : c ≡ nextCall (callCount t) (precedes (shapeOf t)) (among (take k calls))
   chosen = f ∙ rw e (stage-next t ok calls₀ calls counts k g)
 
   pub chosen-call : (c ≡ n → ⊥) → c < callCount t
   chosen-call ne =
-      omega (arith, chosen, next-is (callCount t) (precedes (shapeOf t)) (among (take k calls)) .high, unequal)
+      omega (
+        arith,
+        chosen,
+        next-is (callCount t) (precedes (shapeOf t))
+            (among (take k calls)) .high,
+        unequal,
+      )
     where
       unequal : c ≢ n
       unequal = ne

@@ -17,9 +17,11 @@ module _ (s : Shape) (c : ℕ) (h : c < total s) where
           let r : u ≡ v = cc in
           (omega arith, omega arith)
       go (at-get y l p) =
-          absurd (let q = ap (callOf s) p ∙ is-get s y l in let z : _≡_ {A = ℕ} 0 1 = cc in omega arith)
+          absurd (let q = ap (callOf s) p ∙ is-get s y l in let z : _≡_ {A = ℕ} 0 1 = cc in
+          omega arith)
       go (at-set x l p) =
-          absurd (let q = ap (callOf s) p ∙ is-set s x l in let z : _≡_ {A = ℕ} 0 1 = cc in omega arith)
+          absurd (let q = ap (callOf s) p ∙ is-set s x l in let z : _≡_ {A = ℕ} 0 1 = cc in
+          omega arith)
 
   pub told-get : (y : ℕ) → callOf s c ≡ Get y → (y < s .outputs) × (getNo s y ≡ c)
   told-get y e = go (view s c h)
@@ -30,9 +32,11 @@ module _ (s : Shape) (c : ℕ) (h : c < total s) where
           let r : y ≡ v = cc in
           (omega arith, omega arith)
       go (at-step u l p) =
-          absurd (let q = ap (callOf s) p ∙ is-step s u l in let z : _≡_ {A = ℕ} 0 1 = cc in omega arith)
+          absurd (let q = ap (callOf s) p ∙ is-step s u l in let z : _≡_ {A = ℕ} 0 1 = cc in
+          omega arith)
       go (at-set x l p) =
-          absurd (let q = ap (callOf s) p ∙ is-set s x l in let z : _≡_ {A = ℕ} 0 1 = cc in omega arith)
+          absurd (let q = ap (callOf s) p ∙ is-set s x l in let z : _≡_ {A = ℕ} 0 1 = cc in
+          omega arith)
 
   pub told-set : (x : ℕ) → callOf s c ≡ Set x → (x < s .inputs) × (setNo s x ≡ c)
   told-set x e = go (view s c h)
@@ -43,9 +47,11 @@ module _ (s : Shape) (c : ℕ) (h : c < total s) where
           let r : x ≡ v = cc in
           (omega arith, omega arith)
       go (at-step u l p) =
-          absurd (let q = ap (callOf s) p ∙ is-step s u l in let z : _≡_ {A = ℕ} 0 1 = cc in omega arith)
+          absurd (let q = ap (callOf s) p ∙ is-step s u l in let z : _≡_ {A = ℕ} 0 1 = cc in
+          omega arith)
       go (at-get y l p) =
-          absurd (let q = ap (callOf s) p ∙ is-get s y l in let z : _≡_ {A = ℕ} 0 1 = cc in omega arith)
+          absurd (let q = ap (callOf s) p ∙ is-get s y l in let z : _≡_ {A = ℕ} 0 1 = cc in
+          omega arith)
 
   pub told-none : callOf s c ≡ NoCall → ⊥
   told-none e = go (view s c h)
@@ -53,5 +59,7 @@ module _ (s : Shape) (c : ℕ) (h : c < total s) where
       go : View s c → ⊥
       go (at-step u l p) =
           let q = ap (callOf s) p ∙ is-step s u l in let z : _≡_ {A = ℕ} 0 1 = cc in omega arith
-      go (at-get y l p) = let q = ap (callOf s) p ∙ is-get s y l in let z : _≡_ {A = ℕ} 0 1 = cc in omega arith
-      go (at-set x l p) = let q = ap (callOf s) p ∙ is-set s x l in let z : _≡_ {A = ℕ} 0 1 = cc in omega arith
+      go (at-get y l p) =
+          let q = ap (callOf s) p ∙ is-get s y l in let z : _≡_ {A = ℕ} 0 1 = cc in omega arith
+      go (at-set x l p) =
+          let q = ap (callOf s) p ∙ is-set s x l in let z : _≡_ {A = ℕ} 0 1 = cc in omega arith

@@ -1,4 +1,4 @@
--- Place all that can be placed: what is answered, and the bytes that go to the front of the lent buffer.
+-- Place all that can be placed: what is answered, and the bytes at the front of the lent buffer.
 use mathlib.Core.Bool.{cond}
 use mathlib.Core.List.{List, []}
 use Prim.Native.Nat.{ℕ}
@@ -18,7 +18,7 @@ callCount t = total (shapeOf t)
 unfoldable pub placedOf : List ℕ → List ℕ
 placedOf t = placed (callCount t) (precedes (shapeOf t))
 
--- 1 to 7; then 8 where there is no room for N calls; then 0 with how many were placed, under N where there is a cycle
+-- 1 to 7; then 8 where there is no room for N calls; then 0 with how many were placed
 unfoldable pub placing : List ℕ → ℕ → Outcome
 placing t room =
     cond (eqb (refusal t) 0)

@@ -23,7 +23,8 @@ module _ (s : Shape) (passes : ℕ → Bool) where
   getsToSets = hits (λ x. passes (getNo s (s .source x))) (setNo s) (s .inputs)
 
   abbrev pub setsToGets : ℕ → ℕ
-  setsToGets = hits (λ k. passes (setNo s (s .feedInput k))) (λ k. getNo s (s .feedOutput k)) (s .feeds)
+  setsToGets =
+      hits (λ k. passes (setNo s (s .feedInput k))) (λ k. getNo s (s .feedOutput k)) (s .feeds)
 
   abbrev pub setsToSteps : ℕ → ℕ
   setsToSteps = hits (λ x. eqb (s .kind x) 1 && passes (setNo s x)) (s .inputOwner) (s .inputs)

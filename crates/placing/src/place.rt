@@ -67,7 +67,8 @@ fn place_ready(table: &[u8], count: usize, calls: &mut [u8]) -> usize
     requires { ⌜ count ≡ callCount (now table) ⌝ }
     requires { ⌜ count ≤ length (now calls) ⌝ }
     ensures { λ r. ⌜ r ≡ length (placedOf (now (table .entry))) ⌝ }
-    ensures { λ r. ⌜ now (calls .exit) ≡ fronted (placedOf (now (table .entry))) (now (calls .entry)) ⌝ }
+    ensures { λ r.
+        ⌜ now (calls .exit) ≡ fronted (placedOf (now (table .entry))) (now (calls .entry)) ⌝ }
 {
     let mut waiting: [u8; 225] = [0; 225];
     fill(table, &mut waiting);
@@ -85,11 +86,12 @@ fn place_ready(table: &[u8], count: usize, calls: &mut [u8]) -> usize
     k
 }
 
-// Places all that can be placed: 1 to 7, 8 where `calls` is under N bytes, or 0 with how many, under N at a cycle.
+// Places all that can be placed: 1 to 7, 8 where `calls` is under N bytes, or 0 with how many.
 pub fn place_all(table: &[u8], calls: &mut [u8]) -> Answer
     ensures { λ r. ⌜ r ≡ placing (now (table .entry)) (length (now (calls .entry))) .answer ⌝ }
     ensures { λ r. ⌜ now (calls .exit)
-        ≡ fronted (placing (now (table .entry)) (length (now (calls .entry))) .bytes) (now (calls .entry)) ⌝ }
+        ≡ fronted (placing (now (table .entry)) (length (now (calls .entry))) .bytes)
+        (now (calls .entry)) ⌝ }
 {
     let answer = check(table);
     if answer.number != 0 {

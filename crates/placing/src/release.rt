@@ -52,7 +52,9 @@ fn release_get(table: &[u8], output: usize, waiting: &mut [u8; 225])
     requires { ⌜ length (now waiting) ≡ 225 ⌝ }
     requires { ⌜ ((c : ℕ) → into (shapeOf (now table)) (only (getNo (shapeOf (now table)) output)) c
         ≤ getD (now waiting) c 0) ⌝ }
-    ensures { λ r. ⌜ Less (into (shapeOf (now (table .entry))) (only (getNo (shapeOf (now (table .entry))) output)))
+    ensures { λ r.
+        ⌜ Less (into (shapeOf (now (table .entry)))
+        (only (getNo (shapeOf (now (table .entry))) output)))
         (now (waiting .entry)) (now (waiting .exit)) ⌝ }
 {
     let sets = unit_count(table) + output_count(table);
@@ -74,14 +76,16 @@ fn release_unit(table: &[u8], input: usize, waiting: &mut [u8; 225])
     }
 }
 
-// A set releases the gets of the outputs that it feeds, and the step of its unit where it is reactive.
+// A set releases the gets of the outputs that it feeds, and its unit's step where it is reactive.
 fn release_set(table: &[u8], input: usize, waiting: &mut [u8; 225])
     requires { ⌜ Sound (now table) ⌝ }
     requires { ⌜ input < inputs (now table) ⌝ }
     requires { ⌜ length (now waiting) ≡ 225 ⌝ }
     requires { ⌜ ((c : ℕ) → into (shapeOf (now table)) (only (setNo (shapeOf (now table)) input)) c
         ≤ getD (now waiting) c 0) ⌝ }
-    ensures { λ r. ⌜ Less (into (shapeOf (now (table .entry))) (only (setNo (shapeOf (now (table .entry))) input)))
+    ensures { λ r.
+        ⌜ Less (into (shapeOf (now (table .entry)))
+        (only (setNo (shapeOf (now (table .entry))) input)))
         (now (waiting .entry)) (now (waiting .exit)) ⌝ }
 {
     lower_fed(

@@ -2,14 +2,16 @@
 ghost use mathlib.Core.Path.{_≡_};
 ghost use Prim.Native.Nat.{ℕ, _+_, _*_, _≤_, _<_};
 ghost use lib.ListN.{length, getD};
-ghost use Rattle.placing.specs.Less.{each, isKey, areKeys, isInput, nth, called, fed, hits, Less};
+ghost use Rattle.placing.specs.Less.{each, isKey, areKeys, isInput};
+ghost use Rattle.placing.specs.Less.{nth, called, fed, hits, Less};
 
 // One more at each of `count` calls from `first` on.
 pub fn raise_range(first: usize, count: usize, waiting: &mut [u8; 225])
     requires { ⌜ length (now waiting) ≡ 225 ⌝ }
     requires { ⌜ first + count ≤ 225 ⌝ }
     requires { ⌜ ((c : ℕ) → getD (now waiting) c 0 + hits each (nth first) count c ≤ 255) ⌝ }
-    ensures { λ r. ⌜ Less (hits each (nth first) count) (now (waiting .exit)) (now (waiting .entry)) ⌝ }
+    ensures { λ r.
+        ⌜ Less (hits each (nth first) count) (now (waiting .exit)) (now (waiting .entry)) ⌝ }
 {
     let mut i = 0;
     while i < count {
@@ -24,7 +26,8 @@ pub fn raise_keyed(keys: &[u8], key: u8, first: usize, waiting: &mut [u8; 225])
     requires { ⌜ first + length (now keys) ≤ 225 ⌝ }
     requires { ⌜ ((c : ℕ) → getD (now waiting) c 0
         + hits (isKey (now keys) key) (nth first) (length (now keys)) c ≤ 255) ⌝ }
-    ensures { λ r. ⌜ Less (hits (isKey (now (keys .entry)) key) (nth first) (length (now (keys .entry))))
+    ensures { λ r.
+        ⌜ Less (hits (isKey (now (keys .entry)) key) (nth first) (length (now (keys .entry))))
         (now (waiting .exit)) (now (waiting .entry)) ⌝ }
 {
     let mut i = 0;
@@ -44,7 +47,8 @@ pub fn raise_called(keys: &[u8], key: u8, calls: &[u8], waiting: &mut [u8; 225])
     requires { ⌜ ((c : ℕ) → getD (now waiting) c 0
         + hits (isKey (now keys) key) (called (now calls)) (length (now keys)) c ≤ 255) ⌝ }
     ensures { λ r. ⌜ Less
-        (hits (isKey (now (keys .entry)) key) (called (now (calls .entry))) (length (now (keys .entry))))
+        (hits (isKey (now (keys .entry)) key) (called (now (calls .entry)))
+        (length (now (keys .entry))))
         (now (waiting .exit)) (now (waiting .entry)) ⌝ }
 {
     let mut i = 0;
@@ -61,7 +65,8 @@ pub fn raise_fed(pairs: &[u8], count: usize, first: usize, waiting: &mut [u8; 22
     requires { ⌜ length (now waiting) ≡ 225 ⌝ }
     requires { ⌜ length (now pairs) ≡ 2 * count ⌝ }
     requires { ⌜ ((k : ℕ) → k < count → fed (now pairs) first k < 225) ⌝ }
-    requires { ⌜ ((c : ℕ) → getD (now waiting) c 0 + hits each (fed (now pairs) first) count c ≤ 255) ⌝ }
+    requires { ⌜ ((c : ℕ) → getD (now waiting) c 0 + hits each (fed (now pairs) first) count c
+        ≤ 255) ⌝ }
     ensures { λ r. ⌜ Less (hits each (fed (now (pairs .entry)) first) count)
         (now (waiting .exit)) (now (waiting .entry)) ⌝ }
 {
@@ -79,7 +84,8 @@ pub fn lower_keyed(keys: &[u8], key: u8, first: usize, waiting: &mut [u8; 225])
     requires { ⌜ first + length (now keys) ≤ 225 ⌝ }
     requires { ⌜ ((c : ℕ) → hits (isKey (now keys) key) (nth first) (length (now keys)) c
         ≤ getD (now waiting) c 0) ⌝ }
-    ensures { λ r. ⌜ Less (hits (isKey (now (keys .entry)) key) (nth first) (length (now (keys .entry))))
+    ensures { λ r.
+        ⌜ Less (hits (isKey (now (keys .entry)) key) (nth first) (length (now (keys .entry))))
         (now (waiting .entry)) (now (waiting .exit)) ⌝ }
 {
     let mut i = 0;
@@ -103,7 +109,8 @@ pub fn lower_both(
     requires { ⌜ length (now waiting) ≡ 225 ⌝ }
     requires { ⌜ length (now keys) ≡ length (now others) ⌝ }
     requires { ⌜ first + length (now keys) ≤ 225 ⌝ }
-    requires { ⌜ ((c : ℕ) → hits (areKeys (now keys) key (now others) other) (nth first) (length (now keys)) c
+    requires { ⌜ ((c : ℕ) → hits (areKeys (now keys) key (now others) other) (nth first)
+        (length (now keys)) c
         ≤ getD (now waiting) c 0) ⌝ }
     ensures { λ r. ⌜ Less
         (hits (areKeys (now (keys .entry)) key (now (others .entry)) other) (nth first)
@@ -121,14 +128,15 @@ pub fn lower_both(
     }
 }
 
-// One less at the get of the output of each of `count` feeds of the input; the gets begin at `first`.
+// One less at the get of each output that the input feeds, of `count` feeds; gets begin at `first`.
 pub fn lower_fed(pairs: &[u8], count: usize, input: u8, first: usize, waiting: &mut [u8; 225])
     requires { ⌜ length (now waiting) ≡ 225 ⌝ }
     requires { ⌜ length (now pairs) ≡ 2 * count ⌝ }
     requires { ⌜ ((k : ℕ) → k < count → fed (now pairs) first k < 225) ⌝ }
     requires { ⌜ ((c : ℕ) → hits (isInput (now pairs) input) (fed (now pairs) first) count c
         ≤ getD (now waiting) c 0) ⌝ }
-    ensures { λ r. ⌜ Less (hits (isInput (now (pairs .entry)) input) (fed (now (pairs .entry)) first) count)
+    ensures { λ r.
+        ⌜ Less (hits (isInput (now (pairs .entry)) input) (fed (now (pairs .entry)) first) count)
         (now (waiting .entry)) (now (waiting .exit)) ⌝ }
 {
     let mut k = 0;

@@ -8,15 +8,19 @@ use native.Mathlib.Omega.{arith}
 use native.Mathlib.Decide.{ℕ-discrete, decLe}
 use lib.Dec.{T, eqb, ltb, eqb→eq, ltb→lt, lt→ltb, not-T}
 use lib.ListN.{length, getD}
-use Rattle.search.specs.Truth.{T-and, and-T, either, clash, is-true, is-false, eq-true, eq-false, lt-true, lt-false}
+use Rattle.search.specs.Truth.{T-and, and-T, either, clash, is-true, is-false}
+use Rattle.search.specs.Truth.{eq-true, eq-false, lt-true, lt-false}
 use Rattle.search.specs.Least.{leastFrom, lowest-is, lowest-one}
 use Rattle.table.specs.Shape.{Shape, total, Wired}
 use Rattle.calls.specs.Number.{getNo, setNo}
 use Rattle.calls.specs.Precedence.{feedsTo, hasKind, precedes}
-use Rattle.calls.specs.Neighbours.{feeds-found, found-feeds, kind-found, found-kind, step-get-holds, get-set-holds, set-get-holds, set-step-holds, step-set-holds, before-step, before-get, before-set}
+use Rattle.calls.specs.Neighbours.{feeds-found, found-feeds, kind-found, found-kind}
+use Rattle.calls.specs.Neighbours.{step-get-holds, get-set-holds, set-get-holds, set-step-holds}
+use Rattle.calls.specs.Neighbours.{step-set-holds, before-step, before-get, before-set}
 use Rattle.orders.specs.Sort.{lacks}
 use Rattle.orders.specs.Walk.{lowestBefore}
-use Rattle.table.specs.Packed.{units, outputs, inputs, feeds, inputOwners, kinds, pairs, pairInput, pairOutput, shapeOf}
+use Rattle.table.specs.Packed.{units, outputs, inputs, feeds, inputOwners}
+use Rattle.table.specs.Packed.{kinds, pairs, pairInput, pairOutput, shapeOf}
 use Rattle.table.specs.Sound.{Sound}
 use Rattle.table.specs.Layout.{long-input-owners}
 use Rattle.placing.specs.Less.{isKey, areKeys}
@@ -47,7 +51,8 @@ module _ (s : Shape) (ok : Wired s) (marks : List ℕ) where
   step-lowest u x hu e =
       let l = lowest-is (keepsStep s u marks) (s .inputs) in
       rw e
-      (lowest-at u (setNo s (leastFrom (keepsStep s u marks) (s .inputs) 0)) (omega (arith, l .high))
+      (lowest-at u (setNo s (leastFrom (keepsStep s u marks) (s .inputs) 0))
+      (omega (arith, l .high))
       (λ g.
       let m = leastFrom (keepsStep s u marks) (s .inputs) 0 in
       let h : m < s .inputs = omega arith in
@@ -79,17 +84,20 @@ module _ (s : Shape) (ok : Wired s) (marks : List ℕ) where
   get-lowest y x hy d e =
       let l = lowest-is (keepsGet s y marks) (s .inputs) in
       rw e
-      (lowest-at (getNo s y) (setNo s (leastFrom (keepsGet s y marks) (s .inputs) 0)) (omega (arith, l .high))
+      (lowest-at (getNo s y) (setNo s (leastFrom (keepsGet s y marks) (s .inputs) 0))
+      (omega (arith, l .high))
       (λ g.
       let m = leastFrom (keepsGet s y marks) (s .inputs) 0 in
       let h : m < s .inputs = omega arith in
       let (f, v) = T-and (feedsTo s m y) (not (marked marks (setNo s m))) (l .passes h) in
       (set-get-holds s ok m y h hy f, v))
       (λ a g p n. elim (before-get s y a hy (omega (arith, l .high)) p) [
-        | inl q ↦ clash (marked marks (s .outputOwner y)) d (subst (λ w. T (not (marked marks w))) q n)
+        | inl q ↦ clash (marked marks (s .outputOwner y)) d
+            (subst (λ w. T (not (marked marks w))) q n)
         | inr (z, hz, ea, f) ↦
             clash (keepsGet s y marks z)
-            (and-T (feedsTo s z y) (not (marked marks (setNo s z))) f (subst (λ w. T (not (marked marks w))) ea n))
+            (and-T (feedsTo s z y) (not (marked marks (setNo s z))) f
+            (subst (λ w. T (not (marked marks w))) ea n))
             (l .below z (omega arith))
       ]))
 
@@ -112,16 +120,20 @@ module _ (s : Shape) (ok : Wired s) (marks : List ℕ) where
         rw (is-true (marked marks (getNo s (s .source x))) t)
         (lowest-at (setNo s x) (total s) (omega arith) (λ g. absurd (omega arith))
         (λ a g p m. elim (before-set s x a h (omega arith) p) [
-          | inl e ↦ clash (marked marks (getNo s (s .source x))) t (subst (λ w. T (not (marked marks w))) e m)
-          | inr (z, e) ↦ clash (marked marks (s .inputOwner x)) (d z) (subst (λ w. T (not (marked marks w))) e m)
+          | inl e ↦ clash (marked marks (getNo s (s .source x))) t
+              (subst (λ w. T (not (marked marks w))) e m)
+          | inr (z, e) ↦ clash (marked marks (s .inputOwner x)) (d z)
+              (subst (λ w. T (not (marked marks w))) e m)
         ]))
     | inr t ↦
         rw (is-false (marked marks (getNo s (s .source x))) t)
         (let o = ok .sourced x h in
-        lowest-at (setNo s x) (getNo s (s .source x)) (omega arith) (λ g. (get-set-holds s ok x h, t))
+        lowest-at (setNo s x) (getNo s (s .source x)) (omega arith)
+        (λ g. (get-set-holds s ok x h, t))
         (λ a g p m. elim (before-set s x a h (omega arith) p) [
           | inl e ↦ omega arith
-          | inr (z, e) ↦ clash (marked marks (s .inputOwner x)) (d z) (subst (λ w. T (not (marked marks w))) e m)
+          | inr (z, e) ↦ clash (marked marks (s .inputOwner x)) (d z)
+              (subst (λ w. T (not (marked marks w))) e m)
         ]))
   ]
 
@@ -131,7 +143,8 @@ module _ (s : Shape) (y : ℕ) (marks : List ℕ) where
   pub record Best (k best : ℕ) : Type 0 where
     pub high : best ≤ s .inputs
     pub passes : best < s .inputs → T (keepsGet s y marks best)
-    pub below : (j : ℕ) → j < k → s .feedOutput j ≡ y → T (not (marked marks (setNo s (s .feedInput j))))
+    pub below : (j : ℕ) → j < k → s .feedOutput j ≡ y
+        → T (not (marked marks (setNo s (s .feedInput j))))
         → best ≤ s .feedInput j
 
   pub best-starts : Best 0 (s .inputs)
@@ -144,12 +157,14 @@ module _ (s : Shape) (y : ℕ) (marks : List ℕ) where
   pub best-on : (k best : ℕ) → k < s .feeds → Best k best
       → Best (k + 1)
       (cond (eqb (s .feedOutput k) y
-      && (ltb (s .feedInput k) best && not (marked marks (setNo s (s .feedInput k))))) (s .feedInput k) best)
+      && (ltb (s .feedInput k) best && not (marked marks (setNo s (s .feedInput k)))))
+      (s .feedInput k) best)
   unfolding keepsGet
   best-on k best h b = elim (either test) [
     | inl t ↦
         rw (is-true test t)
-        (let (o, r) = T-and (eqb (s .feedOutput k) y) (ltb x best && not (marked marks (setNo s x))) t in
+        (let (o, r) = T-and (eqb (s .feedOutput k) y)
+        (ltb x best && not (marked marks (setNo s x))) t in
         let (l, m) = T-and (ltb x best) (not (marked marks (setNo s x))) r in
         let less = ltb→lt x best l in
         record {
@@ -196,10 +211,12 @@ module _ (s : Shape) (y : ℕ) (marks : List ℕ) where
           eqb (s .feedOutput k) y &&
           (ltb (s .feedInput k) best && not (marked marks (setNo s (s .feedInput k))))
 
-  pub best-ends : (best : ℕ) → Best (s .feeds) best → best ≡ leastFrom (keepsGet s y marks) (s .inputs) 0
+  pub best-ends : (best : ℕ) → Best (s .feeds) best
+      → best ≡ leastFrom (keepsGet s y marks) (s .inputs) 0
   unfolding keepsGet
   best-ends best b =
-      lowest-one (keepsGet s y marks) (s .inputs) best (leastFrom (keepsGet s y marks) (s .inputs) 0)
+      lowest-one (keepsGet s y marks) (s .inputs) best
+      (leastFrom (keepsGet s y marks) (s .inputs) 0)
       (record {
         high = b .high;
         passes = b .passes;
@@ -207,7 +224,11 @@ module _ (s : Shape) (y : ℕ) (marks : List ℕ) where
             (λ t.
             let (f, m) = T-and (feedsTo s i y) (not (marked marks (setNo s i))) t in
             let (k, hk, p, q) = feeds-found s i y f in
-            omega (arith, b .below k hk q (subst (λ z. T (not (marked marks (setNo s z)))) (sym p) m)));
+            omega (
+              arith,
+              b .below k hk q
+                  (subst (λ z. T (not (marked marks (setNo s z)))) (sym p) m),
+            ));
       })
       (lowest-is (keepsGet s y marks) (s .inputs))
 
@@ -227,7 +248,11 @@ module _ (owners kinds : List ℕ) (unit x : ℕ) (m : Bool) where
   pub keeps-mark : (b : Bool) → getD owners x 0 ≡ unit → getD kinds x 0 ≡ 1 → m ≡ not (not b)
       → b ≡ (areKeys kinds 1 owners unit x && m)
   keeps-mark b p q e =
-      rw (is-true (isKey owners unit x) (eq-true _ _ p), is-true (isKey kinds 1 x) (eq-true _ _ q), e)
+      rw (
+        is-true (isKey owners unit x) (eq-true _ _ p),
+        is-true (isKey kinds 1 x) (eq-true _ _ q),
+        e,
+      )
       (not-twice b)
 
 module _ (pairs : List ℕ) (k y first : ℕ) (marks : List ℕ) (best : ℕ) where
@@ -252,7 +277,8 @@ module _ (pairs : List ℕ) (k y first : ℕ) (marks : List ℕ) (best : ℕ) wh
       )
 
   pub feeding-lower : pairOutput pairs k ≡ y → pairInput pairs k < best
-      → getD marks (first + pairInput pairs k) 0 ≡ 0 → pairInput pairs k ≡ lowerFeeding pairs k y first marks best
+      → getD marks (first + pairInput pairs k) 0 ≡ 0
+      → pairInput pairs k ≡ lowerFeeding pairs k y first marks best
   unfolding lowerFeeding
   feeding-lower e h z =
       rw (
@@ -262,7 +288,8 @@ module _ (pairs : List ℕ) (k y first : ℕ) (marks : List ℕ) (best : ℕ) wh
       )
 
 module _ (s : Shape) (marks : List ℕ) (x : ℕ) where
-  pub source-stays : getD marks (getNo s (s .source x)) 0 ≡ 0 → getNo s (s .source x) ≡ sourceLeft s marks x
+  pub source-stays : getD marks (getNo s (s .source x)) 0 ≡ 0
+      → getNo s (s .source x) ≡ sourceLeft s marks x
   unfolding sourceLeft
   source-stays z = rw (is-true (eqb (getD marks (getNo s (s .source x)) 0) 0) (eq-true _ _ z))
 
@@ -279,14 +306,17 @@ is-marked marks c n = rw (is-false (eqb (getD marks c 0) 0) (eq-false _ _ n)) tt
 
 -- ---- the loops over a sound table's parts
 module _ (t : List ℕ) (ok : Sound t) where
-  pub step-ends : (u : ℕ) (marks : List ℕ) (first : ℕ) (owners kinds′ : List ℕ) (x : ℕ) → u < units t
+  pub step-ends : (u : ℕ) (marks : List ℕ) (first : ℕ) (owners kinds′ : List ℕ) (x : ℕ)
+      → u < units t
       → first ≡ units t + outputs t → owners ≡ inputOwners t → kinds′ ≡ kinds t
-      → x ≡ leastFrom (λ k. areKeys kinds′ 1 owners u k && not (marked marks (first + k))) (length owners) 0
+      → x ≡ leastFrom (λ k. areKeys kinds′ 1 owners u k && not (marked marks (first + k)))
+      (length owners) 0
       → first + x ≡ lowestBefore (total (shapeOf t)) (precedes (shapeOf t)) (marked marks) u
   unfolding keepsStep hasKind
   step-ends u marks first owners kinds′ x h ef eo ek e =
       rw ef
-      (step-lowest (shapeOf t) (ok .wired) marks u x h (e ∙ rw (ef, eo, ek, long-input-owners t (ok .long))))
+      (step-lowest (shapeOf t) (ok .wired) marks u x h
+      (e ∙ rw (ef, eo, ek, long-input-owners t (ok .long))))
 
   pub best-next : (y : ℕ) (marks : List ℕ) (first : ℕ) (pairs′ : List ℕ) (k best r : ℕ)
       → first ≡ units t + outputs t → pairs′ ≡ pairs t → k < feeds t
@@ -296,7 +326,8 @@ module _ (t : List ℕ) (ok : Sound t) where
   best-next y marks first pairs′ k best r ef ep h e b =
       rw (e, ef, ep) (best-on (shapeOf t) y marks k best h b)
 
-  pub best-all : (y : ℕ) (marks : List ℕ) (k best : ℕ) → k ≡ feeds t → Best (shapeOf t) y marks k best
+  pub best-all : (y : ℕ) (marks : List ℕ) (k best : ℕ) → k ≡ feeds t
+      → Best (shapeOf t) y marks k best
       → best ≡ leastFrom (keepsGet (shapeOf t) y marks) (inputs t) 0
   best-all y marks k best e b =
       best-ends (shapeOf t) y marks best (subst (λ n. Best (shapeOf t) y marks n best) e b)

@@ -1,3 +1,4 @@
+-- Laws of the walk, the cycle shown and the answers; and what the contract of `order` settles.
 pub mod Before
 pub mod Trails
 pub mod Turning

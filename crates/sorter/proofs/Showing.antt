@@ -27,7 +27,8 @@ place-in l c t = elim (decLt (leastFrom (isKey l c) (length l) 0) (length l)) [
   | yes p ↦ p
   | no p ↦
       (let (i, h, e) = at-among c l t in
-      absurd (clash (isKey l c i) (eq-true _ _ e) (lowest-is (isKey l c) (length l) .below i (omega arith))))
+      absurd (clash (isKey l c i) (eq-true _ _ e)
+      (lowest-is (isKey l c) (length l) .below i (omega arith))))
 ]
 
 -- ---- the front of what was seen, through a call met again, from its lowest call on
@@ -60,9 +61,11 @@ module _ (seen : List ℕ) (c n : ℕ) (has : T (among seen c))
     first-in =
         rw first-is
         (lowestPlace-is n (take (p + 1) seen) (omega (arith, met-long))
-        (λ i k. rw (getD-take (p + 1) seen i 0 (omega (arith, met-long))) (calls i (omega (arith, met-long, met-fits)))) .0)
+        (λ i k. rw (getD-take (p + 1) seen i 0 (omega (arith, met-long)))
+        (calls i (omega (arith, met-long, met-fits)))) .0)
 
-    pub turned-is : turn first (take (p + 1) seen) ≡ turn (lowestPlace n (upto c seen)) (upto c seen)
+    pub turned-is : turn first (take (p + 1) seen)
+        ≡ turn (lowestPlace n (upto c seen)) (upto c seen)
     turned-is = rw (met-is, first-is)
 
     pub turned-long : p + 1 ≡ length (turn (lowestPlace n (upto c seen)) (upto c seen))
@@ -77,7 +80,8 @@ placed-few t placed e f i h =
     (omega (arith, placed-calls (callCount t) (precedes (shapeOf t)) i (rw (← e) h)))
 
 -- the front of the list holds as many calls as were placed
-pub placed-long : (t calls : List ℕ) (n : ℕ) → take n calls ≡ placedOf t → n ≤ length calls → length (placedOf t) ≡ n
+pub placed-long : (t calls : List ℕ) (n : ℕ) → take n calls ≡ placedOf t → n ≤ length calls
+    → length (placedOf t) ≡ n
 placed-long t calls n e h = sym (ap length e) ∙ length-take-le n calls h
 
 -- ---- what is shown of where the walk ends

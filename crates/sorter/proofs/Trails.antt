@@ -29,24 +29,31 @@ use Rattle.sorter.proofs.Before.{unmarked, is-marked}
 pub marked-none : (marks : List ℕ) → ((c : ℕ) → getD marks c 0 ≡ 0) → marked marks ≡ none
 marked-none marks h = fun-ext (λ x. rw (h x))
 
-pub marked-more : (marks : List ℕ) (c : ℕ) → c < length marks → marked (set marks c 1) ≡ add c (marked marks)
+pub marked-more : (marks : List ℕ) (c : ℕ) → c < length marks
+    → marked (set marks c 1) ≡ add c (marked marks)
 marked-more marks c h = fun-ext (λ x. at x)
   where
     at : (x : ℕ) → marked (set marks c 1) x ≡ add c (marked marks) x
     at x = elim (ℕ-discrete x c) [
-      | yes e ↦ rw (e, getD-set-same marks c 1 0 h, is-true (add c (marked marks) c) (add-self c (marked marks)))
+      | yes e ↦ rw (
+        e,
+        getD-set-same marks c 1 0 h,
+        is-true (add c (marked marks) c) (add-self c (marked marks)),
+      )
       | no ne ↦ rw (getD-set-other marks c x 1 0 ne, is-false (eqb x c) (eq-false x c ne))
     ]
 
 pub mark-on : (calls marks : List ℕ) (i : ℕ) → i < length calls → getD calls i 0 < length marks
-    → marked marks ≡ among (take i calls) → marked (set marks (getD calls i 0) 1) ≡ among (take (i + 1) calls)
+    → marked marks ≡ among (take i calls)
+    → marked (set marks (getD calls i 0) 1) ≡ among (take (i + 1) calls)
 mark-on calls marks i h g e =
     marked-more marks (getD calls i 0) g
     ∙ ap (add (getD calls i 0)) e
     ∙ sym (among-end (take i calls) (getD calls i 0))
     ∙ rw (add-one, take-suc calls i 0)
 
-pub mark-all : (calls marks : List ℕ) (i : ℕ) → length calls ≤ i → marked marks ≡ among (take i calls)
+pub mark-all : (calls marks : List ℕ) (i : ℕ) → length calls ≤ i
+    → marked marks ≡ among (take i calls)
     → marked marks ≡ among calls
 mark-all calls marks i h e = e ∙ ap among (take-all i calls h)
 
@@ -76,7 +83,8 @@ module _ (t : List ℕ) where
     trail-starts path seen call l w z e =
         let n : drop 224 path ≡ [] = drop-of-length-le path {i = 224} (omega arith) in
         let (c, hc, uc) = left-one (callCount t) (precedes (shapeOf t)) early in
-        let (h, u) = lowest-left (callCount t) (precedes (shapeOf t)) (among (placedOf t)) c hc uc in
+        let (h, u) =
+        lowest-left (callCount t) (precedes (shapeOf t)) (among (placedOf t)) c hc uc in
         record {
           long = l;
           wide = w;
@@ -98,10 +106,12 @@ module _ (t : List ℕ) where
     unfolding placedOf
     goes-on c h w a e =
         let stuck = placed-stuck (callCount t) (precedes (shapeOf t)) early in
-        let (p, u, v) = back (callCount t) (precedes (shapeOf t)) (among (placedOf t)) stuck c h w in
+        let (p, u, v) =
+        back (callCount t) (precedes (shapeOf t)) (among (placedOf t)) stuck c h w in
         (rw e p, rw e v)
 
-    module _ (few : callCount t ≤ 224) (path seen : List ℕ) (at call : ℕ) (g : Trail path seen at call) where
+    module _ (few : callCount t ≤ 224) (path seen : List ℕ) (at call : ℕ)
+        (g : Trail path seen at call) where
       more : suc (g .fuel - 1) ≡ g .fuel
       more = omega (arith, g .left, g .many, count-le (among (drop at path)) (callCount t))
 
@@ -130,9 +140,15 @@ module _ (t : List ℕ) where
             long = length-set path (at - 1) call ∙ g .long;
             wide = length-set seen call 1 ∙ g .wide;
             place = omega (arith, g .place);
-            shown = marked-more seen call (omega (arith, g .wide, g .here)) ∙ ap (add call) (g .shown) ∙ ap among (sym d);
+            shown = marked-more seen call (omega (arith, g .wide, g .here))
+                ∙ ap (add call) (g .shown) ∙ ap among (sym d);
             many = rw d
-                (omega (arith, count-add (among (drop at path)) call (callCount t) (g .here) (new-call z), g .many));
+                (omega (
+                  arith,
+                  count-add (among (drop at path)) call (callCount t) (g .here)
+                      (new-call z),
+                  g .many,
+                ));
             calls = rw d (cons-calls (callCount t) call (drop at path) (g .here) (g .calls));
             here = h;
             waits = w;
@@ -140,8 +156,10 @@ module _ (t : List ℕ) where
             left = omega (arith, g .left, more);
             same = rw (d, e)
                 (g .same
-                ∙ ap (λ f. walk (callCount t) (precedes (shapeOf t)) (among (placedOf t)) f (drop at path) call) (sym more)
-                ∙ walk-on (callCount t) (precedes (shapeOf t)) (among (placedOf t)) (g .fuel - 1) (drop at path) call
+                ∙ ap (λ f. walk (callCount t) (precedes (shapeOf t)) (among (placedOf t)) f
+                (drop at path) call) (sym more)
+                ∙ walk-on (callCount t) (precedes (shapeOf t)) (among (placedOf t)) (g .fuel - 1)
+                (drop at path) call
                 (new-call z));
           }
         where
@@ -155,7 +173,8 @@ module _ (t : List ℕ) where
 
       pub trail-met : (getD seen call 0 ≡ 0 → ⊥) → Walked t path at call
       trail-met n =
-          let old : T (among (drop at path) call) = subst (λ q. T (q call)) (g .shown) (is-marked seen call n) in
+          let old : T (among (drop at path) call) =
+          subst (λ q. T (q call)) (g .shown) (is-marked seen call n) in
           record {
             long = g .long;
             place = g .place;
@@ -163,8 +182,10 @@ module _ (t : List ℕ) where
             calls = g .calls;
             again = old;
             is = g .same
-                ∙ ap (λ f. walk (callCount t) (precedes (shapeOf t)) (among (placedOf t)) f (drop at path) call) (sym more)
-                ∙ walk-met (callCount t) (precedes (shapeOf t)) (among (placedOf t)) (g .fuel - 1) (drop at path) call old;
+                ∙ ap (λ f. walk (callCount t) (precedes (shapeOf t)) (among (placedOf t)) f
+                (drop at path) call) (sym more)
+                ∙ walk-met (callCount t) (precedes (shapeOf t)) (among (placedOf t)) (g .fuel - 1)
+                (drop at path) call old;
           }
 
 pub twice : (b : Bool) → T b → T (not (not b))
@@ -184,4 +205,5 @@ left-is t marks n c e m f =
 pub before-is : (t marks : List ℕ) (c a : ℕ) → marked marks ≡ among (placedOf t)
     → a ≡ lowestBefore (callCount t) (precedes (shapeOf t)) (marked marks) c
     → a ≡ lowestBefore (callCount t) (precedes (shapeOf t)) (among (placedOf t)) c
-before-is t marks c a m e = e ∙ ap (λ (q : ℕ → Bool). lowestBefore (callCount t) (precedes (shapeOf t)) q c) m
+before-is t marks c a m e =
+    e ∙ ap (λ (q : ℕ → Bool). lowestBefore (callCount t) (precedes (shapeOf t)) q c) m

@@ -24,9 +24,15 @@ module _ (bytes : List ℕ) (n : ℕ) where
 
   pub low-starts : Low 0 n
   low-starts =
-      record { high = omega arith; one = λ h. absurd (omega arith); below = λ j h. absurd (omega arith) }
+      record {
+        high = omega arith;
+        one = λ h. absurd (omega arith);
+        below = λ j h. absurd
+            (omega arith);
+      }
 
-  pub low-lower : (i low : ℕ) → i < length bytes → getD bytes i 0 < low → Low i low → Low (i + 1) (getD bytes i 0)
+  pub low-lower : (i low : ℕ) → i < length bytes → getD bytes i 0 < low → Low i low
+      → Low (i + 1) (getD bytes i 0)
   low-lower i low h l b = record {
     high = omega (arith, b .high);
     one = λ g. among-at bytes i h;
@@ -72,8 +78,10 @@ module _ (bytes : List ℕ) (first : ℕ) where
   }
 
   -- `place` is `from`, or 0 where that is past the end
-  pub turning-on : (out₀ out : List ℕ) (from place i : ℕ) → first < length bytes → length bytes ≤ length out₀
-      → i < length bytes → ((from ≡ length bytes) × (place ≡ 0)) ⊎ ((from ≡ length bytes → ⊥) × (place ≡ from))
+  pub turning-on : (out₀ out : List ℕ) (from place i : ℕ) → first < length bytes
+      → length bytes ≤ length out₀
+      → i < length bytes → ((from ≡ length bytes) × (place ≡ 0)) ⊎
+      ((from ≡ length bytes → ⊥) × (place ≡ from))
       → Turning out₀ out from i
       → (place < length bytes) × Turning out₀ (set out i (getD bytes place 0)) (place + 1) (i + 1)
   turning-on out₀ out from place i h room hi case g = (
@@ -82,8 +90,10 @@ module _ (bytes : List ℕ) (first : ℕ) where
       most = omega arith;
       within = omega (arith, small case);
       stands = next case (g .stands);
-      front = fronting-on (turn first bytes) (drop (i + 1) (turn first bytes)) out₀ out i (getD bytes place 0)
-          (omega (arith, g .front .long)) (subst (λ r. Fronting (turn first bytes) r out₀ out i) step (g .front));
+      front = fronting-on (turn first bytes) (drop (i + 1) (turn first bytes)) out₀ out i
+          (getD bytes place 0)
+          (omega (arith, g .front .long))
+          (subst (λ r. Fronting (turn first bytes) r out₀ out i) step (g .front));
     },
   )
     where
@@ -108,7 +118,8 @@ module _ (bytes : List ℕ) (first : ℕ) where
           → getD (turn first bytes) i 0 ≡ getD bytes place 0
       value (inl (p, q)) (inl r) = turn-back first bytes h i place (omega arith) (omega arith)
       value (inl (p, q)) (inr r) = absurd (omega arith)
-      value (inr (p, q)) (inl r) = turn-front first bytes h i place (omega arith) (small (inr (p, q)))
+      value (inr (p, q)) (inl r) =
+          turn-front first bytes h i place (omega arith) (small (inr (p, q)))
       value (inr (p, q)) (inr r) = turn-back first bytes h i place (omega arith) (omega arith)
 
       step : drop i (turn first bytes) ≡ getD bytes place 0 ∷ drop (i + 1) (turn first bytes)

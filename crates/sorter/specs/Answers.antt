@@ -26,22 +26,26 @@ module _ (t : List ℕ) (room : ℕ) where
   ordering-settled e h = rw (e, le-leb (callCount t) room h)
 
 module _ (t : List ℕ) where
-  pub settled-all : length (placedOf t) ≡ callCount t → settled t ≡ outcome 0 (callCount t) (placedOf t)
+  pub settled-all : length (placedOf t) ≡ callCount t
+      → settled t ≡ outcome 0 (callCount t) (placedOf t)
   unfolding settled
   settled-all e =
-      rw (is-true (eqb (length (placedOf t)) (callCount t)) (eq-true (length (placedOf t)) (callCount t) e))
+      rw (is-true (eqb (length (placedOf t)) (callCount t))
+      (eq-true (length (placedOf t)) (callCount t) e))
 
   pub settled-some : (length (placedOf t) ≡ callCount t → ⊥)
       → settled t ≡ outcome 9 (length (shownOf t)) (shownOf t)
   unfolding settled
   settled-some n =
-      rw (is-false (eqb (length (placedOf t)) (callCount t)) (eq-false (length (placedOf t)) (callCount t) n))
+      rw (is-false (eqb (length (placedOf t)) (callCount t))
+      (eq-false (length (placedOf t)) (callCount t) n))
 
 abbrev Long : Outcome → Type 0
 Long o = o .answer .place ≡ length (o .bytes)
 
 -- the place tells how many bytes are written
-pub ordering-long : (t : List ℕ) (room : ℕ) → ordering t room .answer .place ≡ length (ordering t room .bytes)
+pub ordering-long : (t : List ℕ) (room : ℕ)
+    → ordering t room .answer .place ≡ length (ordering t room .bytes)
 unfolding ordering settled
 ordering-long t room =
     go (eqb (refusal t) 0) (leb (callCount t) room) (eqb (length (placedOf t)) (callCount t)) refl

@@ -1,4 +1,4 @@
--- Demand 2, first half: a sound table and room give an order exactly where no cycle exists, else a cycle.
+-- Demand 2, first half: with room, a sound table gives an order where no cycle is, else a cycle.
 use mathlib.Core.Path.{_≡_, sym, ap, _∙_}
 use mathlib.Core.Logic.{_↔_}
 use mathlib.Core.List.{List}
@@ -36,7 +36,8 @@ module _ (t : List ℕ) (room : ℕ) (sound : Sound t) (enough : callCount t ≤
     | no m ↦ omega (arith, placed-le (callCount t) (precedes (shapeOf t)))
   ]
 
-  cycle-shown : (length (placedOf t) ≡ callCount t → ⊥) → Shown (callCount t) (precedes (shapeOf t)) (shownOf t)
+  cycle-shown : (length (placedOf t) ≡ callCount t → ⊥)
+      → Shown (callCount t) (precedes (shapeOf t)) (shownOf t)
   unfolding shownOf placedOf
   cycle-shown n = shown-is (callCount t) (precedes (shapeOf t)) (few n)
 
@@ -50,7 +51,7 @@ module _ (t : List ℕ) (room : ℕ) (sound : Sound t) (enough : callCount t ≤
     placed-first (callCount t) (precedes (shapeOf t)) e,
   )
 
-  -- or a cycle is shown: 9 with its length, and the bytes are the cycle, its lowest call first, each call once
+  -- or a cycle is shown: 9 with its length, and the bytes are it, its lowest call first, none twice
   pub not-placed : (length (placedOf t) ≡ callCount t → ⊥)
       → (ordering t room ≡ outcome 9 (length (shownOf t)) (shownOf t))
       × Shown (callCount t) (precedes (shapeOf t)) (shownOf t)
@@ -67,7 +68,8 @@ module _ (t : List ℕ) (room : ℕ) (sound : Sound t) (enough : callCount t ≤
         | yes p ↦ placed-iff (callCount t) (precedes (shapeOf t)) .0 p
         | no p ↦
             absurd
-            (let z : _≡_ {A = ℕ} 9 0 = sym (ap (λ (o : Outcome). o .answer .number) (not-placed p .0)) ∙ e in
+            (let z : _≡_ {A = ℕ} 9 0 = sym
+            (ap (λ (o : Outcome). o .answer .number) (not-placed p .0)) ∙ e in
             omega arith)
       ]
 
@@ -83,7 +85,8 @@ module _ (t : List ℕ) (room : ℕ) (sound : Sound t) (enough : callCount t ≤
     | yes p ↦ (let (o, f) = all-placed p in (rw o f, ap (λ (o : Outcome). o .answer .place) o))
     | no p ↦
         absurd
-        (let z : _≡_ {A = ℕ} 9 0 = sym (ap (λ (o : Outcome). o .answer .number) (not-placed p .0)) ∙ e in
+        (let z : _≡_ {A = ℕ} 9 0 = sym (ap (λ (o : Outcome). o .answer .number) (not-placed p .0))
+        ∙ e in
         omega arith)
   ]
 
@@ -97,15 +100,17 @@ module _ (t : List ℕ) (room : ℕ) (sound : Sound t) (enough : callCount t ≤
     | no p ↦
         (let (o, c) = not-placed p in (
           ap (λ (o : Outcome). o .answer .number) o,
-          ap (λ (o : Outcome). o .answer .place) o ∙ sym (ap (λ (o : Outcome). length (o .bytes)) o),
+          ap (λ (o : Outcome). o .answer .place) o
+              ∙ sym (ap (λ (o : Outcome). length (o .bytes)) o),
           rw o c,
         ))
   ]
 
--- ---- the clause of `order` that states the demand follows from those that determine the answer and the bytes
+-- ---- the clause of `order` that states the demand follows from the two that determine
 module _ (t out : List ℕ) (sound : Sound t) (enough : callCount t ≤ length out) where
   -- the bytes that were given stand at the front
-  front : take (ordering t (length out) .answer .place) (fronted (ordering t (length out) .bytes) out)
+  front : take (ordering t (length out) .answer .place)
+      (fronted (ordering t (length out) .bytes) out)
       ≡ ordering t (length out) .bytes
   front =
       let bytes = ordering t (length out) .bytes in

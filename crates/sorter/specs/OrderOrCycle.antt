@@ -1,5 +1,5 @@
--- The first half of SPECIFICATION, Demands 2, in the declared words: of an answer and the bytes given with it.
--- `precedes` tests the five rules `Precedes`: on a sound table the two are one (`precedes-iff` of `calls`).
+-- The first half of SPECIFICATION, Demands 2, in the declared words: of an answer and its bytes.
+-- `precedes` tests the five rules `Precedes`: on a sound table the two are one (`precedes-iff`).
 use mathlib.Core.Path.{_≡_}
 use mathlib.Core.Logic.{_↔_}
 use mathlib.Core.List.{List}

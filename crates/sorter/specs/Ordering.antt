@@ -1,4 +1,4 @@
--- What `order` answers, and the bytes at the front of the caller's buffer: SPECIFICATION, Order and cycle 9.
+-- What `order` answers, and the bytes at the buffer's front: SPECIFICATION, Order and cycle 9.
 use mathlib.Core.Bool.{cond}
 use mathlib.Core.List.{List, []}
 use Prim.Native.Nat.{ℕ}

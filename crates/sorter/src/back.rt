@@ -54,7 +54,9 @@ fn keeps_step(
 fn before_step(table: &[u8], unit: usize, marks: &[u8; 224]) -> usize
     requires { ⌜ Sound (now table) ⌝ }
     requires { ⌜ unit < units (now table) ⌝ }
-    ensures { λ r. ⌜ r ≡ lowestBefore (callCount (now (table .entry))) (precedes (shapeOf (now (table .entry))))
+    ensures { λ r.
+        ⌜ r ≡ lowestBefore (callCount (now (table .entry)))
+        (precedes (shapeOf (now (table .entry))))
         (marked (now (marks .entry))) unit ⌝ }
 {
     let owners = input_owners(table);
@@ -81,7 +83,8 @@ fn lower_feeding(
 ) -> usize
     requires { ⌜ 2 * k + 1 < length (now pairs) ⌝ }
     requires { ⌜ first + best ≤ 224 ⌝ }
-    ensures { λ r. ⌜ r ≡ lowerFeeding (now (pairs .entry)) k output first (now (marks .entry)) best ⌝ }
+    ensures { λ r.
+        ⌜ r ≡ lowerFeeding (now (pairs .entry)) k output first (now (marks .entry)) best ⌝ }
 {
     if pairs[2 * k + 1] != output {
         return best;
@@ -100,7 +103,8 @@ fn lower_feeding(
 fn first_feeding(table: &[u8], output: usize, marks: &[u8; 224]) -> usize
     requires { ⌜ Sound (now table) ⌝ }
     requires { ⌜ output < outputs (now table) ⌝ }
-    ensures { λ r. ⌜ r ≡ leastFrom (keepsGet (shapeOf (now (table .entry))) output (now (marks .entry)))
+    ensures { λ r.
+        ⌜ r ≡ leastFrom (keepsGet (shapeOf (now (table .entry))) output (now (marks .entry)))
         (inputs (now (table .entry))) 0 ⌝ }
 {
     let pairs = feed_pairs(table);
@@ -119,7 +123,9 @@ fn first_feeding(table: &[u8], output: usize, marks: &[u8; 224]) -> usize
 fn before_get(table: &[u8], output: usize, marks: &[u8; 224]) -> usize
     requires { ⌜ Sound (now table) ⌝ }
     requires { ⌜ output < outputs (now table) ⌝ }
-    ensures { λ r. ⌜ r ≡ lowestBefore (callCount (now (table .entry))) (precedes (shapeOf (now (table .entry))))
+    ensures { λ r.
+        ⌜ r ≡ lowestBefore (callCount (now (table .entry)))
+        (precedes (shapeOf (now (table .entry))))
         (marked (now (marks .entry))) (getNo (shapeOf (now (table .entry))) output) ⌝ }
 {
     let step = byte(output_owners(table), output);
@@ -146,7 +152,9 @@ fn source_left(table: &[u8], input: usize, marks: &[u8; 224]) -> usize
 fn before_set(table: &[u8], input: usize, marks: &[u8; 224]) -> usize
     requires { ⌜ Sound (now table) ⌝ }
     requires { ⌜ input < inputs (now table) ⌝ }
-    ensures { λ r. ⌜ r ≡ lowestBefore (callCount (now (table .entry))) (precedes (shapeOf (now (table .entry))))
+    ensures { λ r.
+        ⌜ r ≡ lowestBefore (callCount (now (table .entry)))
+        (precedes (shapeOf (now (table .entry))))
         (marked (now (marks .entry))) (setNo (shapeOf (now (table .entry))) input) ⌝ }
 {
     if byte(input_kinds(table), input) != 0 {
@@ -163,7 +171,9 @@ fn before_set(table: &[u8], input: usize, marks: &[u8; 224]) -> usize
 pub fn lowest_before(table: &[u8], call: usize, marks: &[u8; 224]) -> usize
     requires { ⌜ Sound (now table) ⌝ }
     requires { ⌜ call < callCount (now table) ⌝ }
-    ensures { λ r. ⌜ r ≡ lowestBefore (callCount (now (table .entry))) (precedes (shapeOf (now (table .entry))))
+    ensures { λ r.
+        ⌜ r ≡ lowestBefore (callCount (now (table .entry)))
+        (precedes (shapeOf (now (table .entry))))
         (marked (now (marks .entry))) call ⌝ }
 {
     let kind = call_of(table, call);

@@ -19,14 +19,17 @@ use placing::place::place_all;
 use table::Answer;
 use table::parts::call_count;
 
-// Writes the front of what was seen through the call met again, from its lowest call on; gives its length.
+// Writes what was seen up to the call met again, from its lowest call on; gives its length.
 fn write_met(seen: &[u8], call: u8, count: u8, out: &mut [u8]) -> usize
     requires { ⌜ T (among (now seen) call) ⌝ }
     requires { ⌜ ((i : ℕ) → i < length (now seen) → getD (now seen) i 0 < count) ⌝ }
     requires { ⌜ length (now seen) ≤ length (now out) ⌝ }
-    ensures { λ r. ⌜ r ≡ length (turn (lowestPlace count (upto call (now (seen .entry)))) (upto call (now (seen .entry)))) ⌝ }
+    ensures { λ r.
+        ⌜ r ≡ length (turn (lowestPlace count (upto call (now (seen .entry))))
+        (upto call (now (seen .entry)))) ⌝ }
     ensures { λ r. ⌜ now (out .exit)
-        ≡ fronted (turn (lowestPlace count (upto call (now (seen .entry)))) (upto call (now (seen .entry))))
+        ≡ fronted (turn (lowestPlace count (upto call (now (seen .entry))))
+        (upto call (now (seen .entry))))
         (now (out .entry)) ⌝ }
 {
     let length = place_of(seen, call) + 1;
@@ -56,12 +59,14 @@ fn show_cycle(table: &[u8], count: usize, placed: usize, calls: &mut [u8], out: 
     write_met(&calls[at..], call as u8, count as u8, out)
 }
 
-// The first order at the front of `out`, or the cycle shown there, or another refusal, which writes nothing.
+// The first order at the front of `out`, or the cycle, or another refusal, which writes nothing.
 pub fn order(table: &[u8], out: &mut [u8]) -> Answer
     ensures { λ r. ⌜ r ≡ ordering (now (table .entry)) (length (now (out .entry))) .answer ⌝ }
     ensures { λ r. ⌜ now (out .exit)
-        ≡ fronted (ordering (now (table .entry)) (length (now (out .entry))) .bytes) (now (out .entry)) ⌝ }
-    ensures { λ r. ⌜ (Sound (now (table .entry)) → callCount (now (table .entry)) ≤ length (now (out .entry))
+        ≡ fronted (ordering (now (table .entry)) (length (now (out .entry))) .bytes)
+        (now (out .entry)) ⌝ }
+    ensures { λ r.
+        ⌜ (Sound (now (table .entry)) → callCount (now (table .entry)) ≤ length (now (out .entry))
         → OrderOrCycle (now (table .entry)) r (take (r .place) (now (out .exit)))) ⌝ }
 {
     let mut calls: [u8; 224] = [0; 224];

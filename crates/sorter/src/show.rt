@@ -9,7 +9,8 @@ ghost use Rattle.placing.specs.Less.{isKey};
 
 // The first place that holds the byte; the length where none does.
 pub fn place_of(bytes: &[u8], byte: u8) -> usize
-    ensures { λ r. ⌜ r ≡ leastFrom (isKey (now (bytes .entry)) byte) (length (now (bytes .entry))) 0 ⌝ }
+    ensures { λ r.
+        ⌜ r ≡ leastFrom (isKey (now (bytes .entry)) byte) (length (now (bytes .entry))) 0 ⌝ }
 {
     let mut i = 0;
     while i < bytes.len() {
@@ -40,7 +41,8 @@ pub fn lowest_of(bytes: &[u8], count: u8) -> u8
 pub fn write_turned(bytes: &[u8], first: usize, out: &mut [u8])
     requires { ⌜ first < length (now bytes) ⌝ }
     requires { ⌜ length (now bytes) ≤ length (now out) ⌝ }
-    ensures { λ r. ⌜ now (out .exit) ≡ fronted (turn first (now (bytes .entry))) (now (out .entry)) ⌝ }
+    ensures { λ r.
+        ⌜ now (out .exit) ≡ fronted (turn first (now (bytes .entry))) (now (out .entry)) ⌝ }
 {
     let mut from = first;
     let mut to = 0;

@@ -26,23 +26,15 @@ input-kinds-requires c κs = search needs
 
 raise-range-requires : tie.Need-raise-range-requires
 raise-range-requires c κs =
-    let p = c .before .before .before .before .before .pre in
-    let t = c .before .before .before .before .before .args .table .now in (
-      p .1 .0,
+    let output-count = c.before.before.output-count in
+    let unit-count = c.before.before.before.unit-count in
+    let start = c.before.before.before.before.before in
+    let args = start.args in
+    let pre = start.pre in (
+      pre.1.0,
       (
-        omega (
-          arith,
-          c .before .before .before .unit-count .ensures .0,
-          c .before .before .output-count .ensures .0,
-          fits t (p .0),
-        ),
-        (λ k.
-            omega (
-              arith,
-              p .1 .1 k,
-              row-once each (c .before .before .before .unit-count .result)
-                  (c .before .before .output-count .result) k,
-            )),
+        omega (arith, unit-count.ensures.0, output-count.ensures.0, fits args.table.now pre.0),
+        (λ k. omega (arith, pre.1.1 k, row-once each unit-count.result output-count.result k)),
       ),
     )
 
@@ -51,28 +43,24 @@ input-count-requires c κs = search needs
 
 raise-range-requires-2 : tie.Need-raise-range-requires-2
 raise-range-requires-2 c κs =
-    let p = c .before .before .before .before .before .before .before .before .pre in
-    let t = c .before .before .before .before .before .before .before .before .args .table .now in
-    let f = fits t (p .0) in (
-      sym (c .before .before .raise-range .ensures .long) ∙ p .1 .0,
+    let input-count = c.before.input-count in
+    let raise-range = c.before.before.raise-range in
+    let output-count = c.before.before.before.before.before.output-count in
+    let at-unit-count = c.before.before.before.before.before.before in
+    let unit-count = at-unit-count.unit-count in
+    let args = at-unit-count.before.before.args in
+    let pre = at-unit-count.before.before.pre in
+    let f = fits args.table.now pre.0 in (
+      sym raise-range.ensures.long ∙ pre.1.0,
       (
-        omega (
+        omega (arith, unit-count.ensures.0, output-count.ensures.0, input-count.ensures.0),
+        (λ k. omega (
           arith,
-          c .before .before .before .before .before .before .unit-count .ensures .0,
-          c .before .before .before .before .before .output-count .ensures .0,
-          c .before .input-count .ensures .0,
-        ),
-        (λ k.
-            omega (
-              arith,
-              p .1 .1 k,
-              c .before .before .raise-range .ensures .less k,
-              row-once each (c .before .before .before .before .before .before .unit-count .result)
-                  (c .before .before .before .before .before .output-count .result) k,
-              row-once each
-                  (c .before .before .before .before .before .before .unit-count .result +
-                  c .before .before .before .before .before .output-count .result) (c .before .input-count .result) k,
-            )),
+          pre.1.1 k,
+          raise-range.ensures.less k,
+          row-once each unit-count.result output-count.result k,
+          row-once each (unit-count.result + output-count.result) input-count.result k,
+        )),
       ),
     )
 
@@ -84,44 +72,41 @@ feed-count-requires c κs = search needs
 
 raise-fed-requires : tie.Need-raise-fed-requires
 raise-fed-requires c κs =
-    let p =
-    c .before .before .before .before .before .before .before .before .before .before .before .before .pre in
-    let t =
-    c .before .before .before .before .before .before .before .before .before .before .before .before .args .table .now in (
-      sym (c .before .before .before .raise-range2 .ensures .long)
-          ∙ sym (c .before .before .before .before .before .before .raise-range .ensures .long)
-          ∙ p .1 .0,
+    let feed-count = c.before.feed-count in
+    let feed-pairs = c.before.before.feed-pairs in
+    let raise-range2 = c.before.before.before.raise-range2 in
+    let input-count = c.before.before.before.before.before.input-count in
+    let at-raise-range = c.before.before.before.before.before.before in
+    let raise-range = at-raise-range.raise-range in
+    let output-count = at-raise-range.before.before.before.output-count in
+    let unit-count = at-raise-range.before.before.before.before.unit-count in
+    let start = at-raise-range.before.before.before.before.before.before in
+    let args = start.args in
+    let pre = start.pre in (
+      sym raise-range2.ensures.long ∙ sym raise-range.ensures.long ∙ pre.1.0,
       (
         omega (
           arith,
-          ap length (c .before .before .feed-pairs .ensures),
-          long-pairs t (p .0 .long),
-          c .before .feed-count .ensures .0,
+          ap length feed-pairs.ensures,
+          long-pairs args.table.now pre.0.long,
+          feed-count.ensures.0,
         ),
         (
-          fed-fits t (p .0) _ _ _
-              (c .before .before .before .before .before .before .before .before .before .before .unit-count .ensures .0)
-              (c .before .feed-count .ensures .0) (c .before .before .feed-pairs .ensures),
-          (λ k.
-              omega (
-                arith,
-                p .1 .1 k,
-                c .before .before .before .before .before .before .raise-range .ensures .less k,
-                c .before .before .before .raise-range2 .ensures .less k,
-                row-once each
-                    (c .before .before .before .before .before .before .before .before .before .before .unit-count .result)
-                    (c .before .before .before .before .before .before .before .before .before .output-count .result) k,
-                row-once each
-                    (c .before .before .before .before .before .before .before .before .before .before .unit-count .result
-                    + c .before .before .before .before .before .before .before .before .before .output-count .result)
-                    (c .before .before .before .before .before .input-count .result) k,
-                hits-le
-                    (fed (c .before .before .feed-pairs .result .now)
-                    (c .before .before .before .before .before .before .before .before .before .before .unit-count .result))
-                    (c .before .feed-count .result) k each,
-                c .before .feed-count .ensures .0,
-                p .0 .counted .feeds-most,
-              )),
+          fed-fits args.table.now pre.0 _ _ _ unit-count.ensures.0 feed-count.ensures.0
+              feed-pairs.ensures,
+          (λ k. omega (
+            arith,
+            pre.1.1 k,
+            raise-range.ensures.less k,
+            raise-range2.ensures.less k,
+            row-once each unit-count.result output-count.result k,
+            row-once each (unit-count.result + output-count.result) input-count.result
+                k,
+            hits-le (fed feed-pairs.result.now unit-count.result) feed-count.result k
+                each,
+            feed-count.ensures.0,
+            pre.0.counted.feeds-most,
+          )),
         ),
       ),
     )
@@ -131,178 +116,152 @@ input-owners-requires c κs = search needs
 
 raise-called-requires : tie.Need-raise-called-requires
 raise-called-requires c κs =
-    let p =
-    c .before .before .before .before .before .before .before .before .before .before .before .before .before .before .before .pre in
-    let t =
-    c .before .before .before .before .before .before .before .before .before .before .before .before .before .before .before .args .table .now in
-    let lk =
-    ap length
-    (c .before .before .before .before .before .before .before .before .before .before .before .input-kinds .ensures)
-    ∙ long-kinds t (p .0 .long) in (
-      sym (c .before .before .raise-fed .ensures .long)
-          ∙ sym (c .before .before .before .before .before .before .raise-range2 .ensures .long)
-          ∙ sym
-          (c .before .before .before .before .before .before .before .before .before .raise-range .ensures .long)
-          ∙ p .1 .0,
+    let input-owners = c.before.input-owners in
+    let raise-fed = c.before.before.raise-fed in
+    let feed-count = c.before.before.before.before.feed-count in
+    let feed-pairs = c.before.before.before.before.before.feed-pairs in
+    let at-raise-range2 = c.before.before.before.before.before.before in
+    let raise-range2 = at-raise-range2.raise-range2 in
+    let input-count = at-raise-range2.before.before.input-count in
+    let raise-range = at-raise-range2.before.before.before.raise-range in
+    let input-kinds = at-raise-range2.before.before.before.before.before.input-kinds in
+    let at-output-count = at-raise-range2.before.before.before.before.before.before in
+    let output-count = at-output-count.output-count in
+    let unit-count = at-output-count.before.unit-count in
+    let start = at-output-count.before.before.before in
+    let args = start.args in
+    let pre = start.pre in
+    let lk = ap length input-kinds.ensures ∙ long-kinds args.table.now pre.0.long in (
+      sym raise-fed.ensures.long
+          ∙ sym raise-range2.ensures.long
+          ∙ sym raise-range.ensures.long
+          ∙ pre.1.0,
       (
-        lk ∙ sym (ap length (c .before .input-owners .ensures) ∙ long-input-owners t (p .0 .long)),
+        lk
+            ∙ sym
+            (ap length input-owners.ensures ∙ long-input-owners args.table.now pre.0.long),
         (
-          (λ i h.
-              rw (c .before .input-owners .ensures)
-              (omega (arith, p .0 .wired .input-owned i (omega (arith, lk)), fits t (p .0)))),
-          (λ k.
-              omega (
+          (λ i h. rw input-owners.ensures
+              (omega (
                 arith,
-                p .1 .1 k,
-                c .before .before .before .before .before .before .before .before .before .raise-range .ensures .less
-                    k,
-                c .before .before .before .before .before .before .raise-range2 .ensures .less k,
-                c .before .before .raise-fed .ensures .less k,
-                row-once each
-                    (c .before .before .before .before .before .before .before .before .before .before .before .before .before .unit-count .result)
-                    (c .before .before .before .before .before .before .before .before .before .before .before .before .output-count .result)
-                    k,
-                row-once each
-                    (c .before .before .before .before .before .before .before .before .before .before .before .before .before .unit-count .result
-                    +
-                    c .before .before .before .before .before .before .before .before .before .before .before .before .output-count .result)
-                    (c .before .before .before .before .before .before .before .before .input-count .result) k,
-                hits-le
-                    (fed (c .before .before .before .before .before .feed-pairs .result .now)
-                    (c .before .before .before .before .before .before .before .before .before .before .before .before .before .unit-count .result))
-                    (c .before .before .before .before .feed-count .result) k each,
-                c .before .before .before .before .feed-count .ensures .0,
-                p .0 .counted .feeds-most,
-                hits-le (called (c .before .input-owners .result .now))
-                    (length
-                    (c .before .before .before .before .before .before .before .before .before .before .before .input-kinds .result .now))
-                    k
-                    (isKey
-                    (c .before .before .before .before .before .before .before .before .before .before .before .input-kinds .result .now)
-                    1),
-                lk,
-                p .0 .counted .inputs-most,
-              )),
+                pre.0.wired.input-owned i (omega (arith, lk)),
+                fits args.table.now pre.0,
+              ))),
+          (λ k. omega (
+            arith,
+            pre.1.1 k,
+            raise-range.ensures.less k,
+            raise-range2.ensures.less k,
+            raise-fed.ensures.less k,
+            row-once each unit-count.result output-count.result k,
+            row-once each (unit-count.result + output-count.result)
+                input-count.result k,
+            hits-le (fed feed-pairs.result.now unit-count.result) feed-count.result
+                k each,
+            feed-count.ensures.0,
+            pre.0.counted.feeds-most,
+            hits-le (called input-owners.result.now) (length input-kinds.result.now)
+                k (isKey input-kinds.result.now 1),
+            lk,
+            pre.0.counted.inputs-most,
+          )),
         ),
       ),
     )
 
 raise-keyed-requires : tie.Need-raise-keyed-requires
 raise-keyed-requires c κs =
-    let p =
-    c .before .before .before .before .before .before .before .before .before .before .before .before .before .before .before .before .before .pre in
-    let t =
-    c .before .before .before .before .before .before .before .before .before .before .before .before .before .before .before .before .before .args .table .now in
-    let lk =
-    ap length
-    (c .before .before .before .before .before .before .before .before .before .before .before .before .before .input-kinds .ensures)
-    ∙ long-kinds t (p .0 .long) in (
-      sym (c .before .raise-called .ensures .long)
-          ∙ sym (c .before .before .before .before .raise-fed .ensures .long)
-          ∙ sym (c .before .before .before .before .before .before .before .before .raise-range2 .ensures .long)
-          ∙ sym
-          (c .before .before .before .before .before .before .before .before .before .before .before .raise-range .ensures .long)
-          ∙ p .1 .0,
+    let raise-called = c.before.raise-called in
+    let input-owners = c.before.before.before.input-owners in
+    let raise-fed = c.before.before.before.before.raise-fed in
+    let at-feed-count = c.before.before.before.before.before.before in
+    let feed-count = at-feed-count.feed-count in
+    let feed-pairs = at-feed-count.before.feed-pairs in
+    let raise-range2 = at-feed-count.before.before.raise-range2 in
+    let input-count = at-feed-count.before.before.before.before.input-count in
+    let raise-range = at-feed-count.before.before.before.before.before.raise-range in
+    let at-input-kinds = at-feed-count.before.before.before.before.before.before.before in
+    let input-kinds = at-input-kinds.input-kinds in
+    let output-count = at-input-kinds.before.output-count in
+    let unit-count = at-input-kinds.before.before.unit-count in
+    let start = at-input-kinds.before.before.before.before in
+    let args = start.args in
+    let pre = start.pre in
+    let lk = ap length input-kinds.ensures ∙ long-kinds args.table.now pre.0.long in (
+      sym raise-called.ensures.long
+          ∙ sym raise-fed.ensures.long
+          ∙ sym raise-range2.ensures.long
+          ∙ sym raise-range.ensures.long
+          ∙ pre.1.0,
       (
         omega (
           arith,
-          c .before .before .before .before .before .before .before .before .before .before .before .before .before .before .before .unit-count .ensures .0,
-          c .before .before .before .before .before .before .before .before .before .before .before .before .before .before .output-count .ensures .0,
+          unit-count.ensures.0,
+          output-count.ensures.0,
           lk,
-          fits t (p .0),
+          fits args.table.now pre.0,
         ),
-        (λ k.
-            omega (
-              arith,
-              p .1 .1 k,
-              c .before .before .before .before .before .before .before .before .before .before .before .raise-range .ensures .less
-                  k,
-              c .before .before .before .before .before .before .before .before .raise-range2 .ensures .less k,
-              c .before .before .before .before .raise-fed .ensures .less k,
-              c .before .raise-called .ensures .less k,
-              row-once each
-                  (c .before .before .before .before .before .before .before .before .before .before .before .before .before .before .before .unit-count .result)
-                  (c .before .before .before .before .before .before .before .before .before .before .before .before .before .before .output-count .result)
-                  k,
-              row-once each
-                  (c .before .before .before .before .before .before .before .before .before .before .before .before .before .before .before .unit-count .result
-                  +
-                  c .before .before .before .before .before .before .before .before .before .before .before .before .before .before .output-count .result)
-                  (c .before .before .before .before .before .before .before .before .before .before .input-count .result)
-                  k,
-              hits-le
-                  (fed (c .before .before .before .before .before .before .before .feed-pairs .result .now)
-                  (c .before .before .before .before .before .before .before .before .before .before .before .before .before .before .before .unit-count .result))
-                  (c .before .before .before .before .before .before .feed-count .result) k each,
-              c .before .before .before .before .before .before .feed-count .ensures .0,
-              p .0 .counted .feeds-most,
-              hits-le (called (c .before .before .before .input-owners .result .now))
-                  (length
-                  (c .before .before .before .before .before .before .before .before .before .before .before .before .before .input-kinds .result .now))
-                  k
-                  (isKey
-                  (c .before .before .before .before .before .before .before .before .before .before .before .before .before .input-kinds .result .now)
-                  1),
-              lk,
-              p .0 .counted .inputs-most,
-              row-once
-                  (isKey
-                  (c .before .before .before .before .before .before .before .before .before .before .before .before .before .input-kinds .result .now)
-                  0)
-                  (c .before .before .before .before .before .before .before .before .before .before .before .before .before .before .before .unit-count .result
-                  +
-                  c .before .before .before .before .before .before .before .before .before .before .before .before .before .before .output-count .result)
-                  (length
-                  (c .before .before .before .before .before .before .before .before .before .before .before .before .before .input-kinds .result .now))
-                  k,
-            )),
+        (λ k. omega (
+          arith,
+          pre.1.1 k,
+          raise-range.ensures.less k,
+          raise-range2.ensures.less k,
+          raise-fed.ensures.less k,
+          raise-called.ensures.less k,
+          row-once each unit-count.result output-count.result k,
+          row-once each (unit-count.result + output-count.result) input-count.result k,
+          hits-le (fed feed-pairs.result.now unit-count.result) feed-count.result k
+              each,
+          feed-count.ensures.0,
+          pre.0.counted.feeds-most,
+          hits-le (called input-owners.result.now) (length input-kinds.result.now) k
+              (isKey input-kinds.result.now 1),
+          lk,
+          pre.0.counted.inputs-most,
+          row-once (isKey input-kinds.result.now 0)
+              (unit-count.result + output-count.result) (length input-kinds.result.now)
+              k,
+        )),
       ),
     )
 
 returns : tie.Need-returns
 returns c =
-    let p =
-    c .before .before .before .before .before .before .before .before .before .before .before .before .before .before .before .before .before .before .pre in
-    let t =
-    c .before .before .before .before .before .before .before .before .before .before .before .before .before .before .before .before .before .before .args .table .now in
-    filled t (p .0)
-    (c .before .before .before .before .before .before .before .before .before .before .before .before .before .before .before .before .unit-count .result)
-    (c .before .before .before .before .before .before .before .before .before .before .before .before .before .before .before .before .unit-count .result
-    +
-    c .before .before .before .before .before .before .before .before .before .before .before .before .before .before .before .output-count .result)
-    (c .before .before .before .before .before .before .before .before .before .before .before .before .before .before .before .output-count .result)
-    (c .before .before .before .before .before .before .before .before .before .before .before .input-count .result)
-    (c .before .before .before .before .before .before .before .feed-count .result)
-    (c .before .before .before .before .before .before .before .before .before .before .before .before .before .before .input-kinds .result .now)
-    (c .before .before .before .before .input-owners .result .now)
-    (c .before .before .before .before .before .before .before .before .feed-pairs .result .now) _
-    (c .before .before .before .before .before .before .before .before .before .before .before .before .before .before .before .before .unit-count .ensures .0)
-    (c .before .before .before .before .before .before .before .before .before .before .before .before .before .before .before .output-count .ensures .0)
-    (ap₂ _+_
-    (c .before .before .before .before .before .before .before .before .before .before .before .before .before .before .before .before .unit-count .ensures .0)
-    (c .before .before .before .before .before .before .before .before .before .before .before .before .before .before .before .output-count .ensures .0))
-    (c .before .before .before .before .before .before .before .before .before .before .before .input-count .ensures .0)
-    (c .before .before .before .before .before .before .before .feed-count .ensures .0)
-    (c .before .before .before .before .before .before .before .before .before .before .before .before .before .before .input-kinds .ensures)
-    (c .before .before .before .before .input-owners .ensures)
-    (c .before .before .before .before .before .before .before .before .feed-pairs .ensures)
-    (sym (c .raise-keyed .ensures .long)
-    ∙ sym (c .before .before .raise-called .ensures .long)
-    ∙ sym (c .before .before .before .before .before .raise-fed .ensures .long)
-    ∙ sym (c .before .before .before .before .before .before .before .before .before .raise-range2 .ensures .long)
-    ∙ sym
-    (c .before .before .before .before .before .before .before .before .before .before .before .before .raise-range .ensures .long)
-    ∙ p .1 .0)
-    (λ k.
-    omega (
+    let raise-called = c.before.before.raise-called in
+    let input-owners = c.before.before.before.before.input-owners in
+    let raise-fed = c.before.before.before.before.before.raise-fed in
+    let at-feed-count = c.before.before.before.before.before.before.before in
+    let feed-count = at-feed-count.feed-count in
+    let feed-pairs = at-feed-count.before.feed-pairs in
+    let raise-range2 = at-feed-count.before.before.raise-range2 in
+    let input-count = at-feed-count.before.before.before.before.input-count in
+    let raise-range = at-feed-count.before.before.before.before.before.raise-range in
+    let at-input-kinds = at-feed-count.before.before.before.before.before.before.before in
+    let input-kinds = at-input-kinds.input-kinds in
+    let output-count = at-input-kinds.before.output-count in
+    let unit-count = at-input-kinds.before.before.unit-count in
+    let start = at-input-kinds.before.before.before.before in
+    let args = start.args in
+    let pre = start.pre in
+    filled args.table.now pre.0 unit-count.result (unit-count.result + output-count.result)
+    output-count.result input-count.result feed-count.result input-kinds.result.now
+    input-owners.result.now feed-pairs.result.now _ unit-count.ensures.0 output-count.ensures.0
+    (ap₂ _+_ unit-count.ensures.0 output-count.ensures.0) input-count.ensures.0 feed-count.ensures.0
+    input-kinds.ensures input-owners.ensures feed-pairs.ensures
+    (sym c.raise-keyed.ensures.long
+    ∙ sym raise-called.ensures.long
+    ∙ sym raise-fed.ensures.long
+    ∙ sym raise-range2.ensures.long
+    ∙ sym raise-range.ensures.long
+    ∙ pre.1.0)
+    (λ k. omega (
       arith,
-      p .1 .1 k,
-      c .before .before .before .before .before .before .before .before .before .before .before .before .raise-range .ensures .less
-          k,
-      c .before .before .before .before .before .before .before .before .before .raise-range2 .ensures .less k,
-      c .before .before .before .before .before .raise-fed .ensures .less k,
-      c .before .before .raise-called .ensures .less k,
-      c .raise-keyed .ensures .less k,
+      pre.1.1 k,
+      raise-range.ensures.less k,
+      raise-range2.ensures.less k,
+      raise-fed.ensures.less k,
+      raise-called.ensures.less k,
+      c.raise-keyed.ensures.less k,
     ))
 
 pub fill-spec : {M : Type 1} → statement M

@@ -25,93 +25,83 @@ element-copy-out-if1 c = search needs
 
 returns : tie.Need-returns Inv-loop μ-loop
 returns c =
-    zero-found (c .before .before .before .args .waiting .now) (c .before .before .before .args .count)
-    (c .before .before .loop .c) (c .before .before .loop .inv .0) (c .before .before .loop .inv .1)
-    (c .if1 .taken)
+    let loop = c.before.before.loop in
+    let args = c.before.before.before.args in
+    zero-found args.waiting.now args.count loop.c loop.inv.0 loop.inv.1 c.if1.taken
 
 add-if2 : tie.Need-add-if2 Inv-loop μ-loop
 add-if2 c =
-    let z =
-    zero-behind (c .before .before .before .args .waiting .now) (c .before .before .before .args .count)
-    (c .before .before .loop .c) (c .before .before .before .pre .1) (c .before .before .loop .inv .0)
-    (c .if1 .left) in
+    let loop = c.before.before.loop in
+    let start = c.before.before.before in
+    let args = start.args in
+    let pre = start.pre in
+    let z = zero-behind args.waiting.now args.count loop.c pre.1 loop.inv.0 c.if1.left in
     search needs
 
 element-copy-out-if2 : tie.Need-element-copy-out-if2 Inv-loop μ-loop
 element-copy-out-if2 c =
-    let z =
-    zero-behind (c .before .before .before .args .waiting .now) (c .before .before .before .args .count)
-    (c .before .before .loop .c) (c .before .before .before .pre .1) (c .before .before .loop .inv .0)
-    (c .if1 .left) in
+    let loop = c.before.before.loop in
+    let start = c.before.before.before in
+    let args = start.args in
+    let pre = start.pre in
+    let z = zero-behind args.waiting.now args.count loop.c pre.1 loop.inv.0 c.if1.left in
     search needs
 
 add-result : tie.Need-add-result Inv-loop μ-loop
 add-result c =
-    let z =
-    zero-behind (c .before .before .before .before .before .args .waiting .now)
-    (c .before .before .before .before .before .args .count) (c .before .before .before .before .loop .c)
-    (c .before .before .before .before .before .pre .1) (c .before .before .before .before .loop .inv .0)
-    (c .before .before .if1 .left) in
-    search needs
+    let if1 = c.before.before.if1 in
+    let loop = c.before.before.before.before.loop in
+    let start = c.before.before.before.before.before in
+    let args = start.args in
+    let pre = start.pre in
+    let z = zero-behind args.waiting.now args.count loop.c pre.1 loop.inv.0 if1.left in search needs
 
 returns-2 : tie.Need-returns-2 Inv-loop μ-loop
 returns-2 c =
-    let z =
-    zero-behind (c .before .before .before .before .before .args .waiting .now)
-    (c .before .before .before .before .before .args .count) (c .before .before .before .before .loop .c)
-    (c .before .before .before .before .before .pre .1) (c .before .before .before .before .loop .inv .0)
-    (c .before .before .if1 .left) in
-    zero-found (c .before .before .before .before .before .args .waiting .now)
-    (c .before .before .before .before .before .args .count) ((c .before .before .before .before .loop .c) + 1)
-    (omega arith)
-    (below-more (λ k. T (not (isKey (c .before .before .before .before .before .args .waiting .now) 0 k)))
-    (c .before .before .before .before .loop .c) (c .before .before .before .before .loop .inv .1)
-    (eq-false _ _ (c .before .before .if1 .left))) (c .if2 .taken)
+    let if1 = c.before.before.if1 in
+    let loop = c.before.before.before.before.loop in
+    let start = c.before.before.before.before.before in
+    let args = start.args in
+    let pre = start.pre in
+    let z = zero-behind args.waiting.now args.count loop.c pre.1 loop.inv.0 if1.left in
+    zero-found args.waiting.now args.count (loop.c + 1) (omega arith)
+    (below-more (λ k. T (not (isKey args.waiting.now 0 k))) loop.c loop.inv.1
+    (eq-false _ _ if1.left)) c.if2.taken
 
 add-c : tie.Need-add-c Inv-loop μ-loop
 add-c c =
-    let z =
-    zero-behind (c .before .before .before .before .before .args .waiting .now)
-    (c .before .before .before .before .before .args .count) (c .before .before .before .before .loop .c)
-    (c .before .before .before .before .before .pre .1) (c .before .before .before .before .loop .inv .0)
-    (c .before .before .if1 .left) in
-    let y =
-    zero-behind (c .before .before .before .before .before .args .waiting .now)
-    (c .before .before .before .before .before .args .count)
-    ((c .before .before .before .before .loop .c) + 1) (c .before .before .before .before .before .pre .1)
-    (omega arith) (c .if2 .left) in
+    let if1 = c.before.before.if1 in
+    let loop = c.before.before.before.before.loop in
+    let start = c.before.before.before.before.before in
+    let args = start.args in
+    let pre = start.pre in
+    let z = zero-behind args.waiting.now args.count loop.c pre.1 loop.inv.0 if1.left in
+    let y = zero-behind args.waiting.now args.count (loop.c + 1) pre.1 (omega arith) c.if2.left in
     search needs
 
 loop-less : tie.Need-loop-less Inv-loop μ-loop
 loop-less c =
-    let z =
-    zero-behind (c .before .before .before .before .before .args .waiting .now)
-    (c .before .before .before .before .before .args .count) (c .before .before .before .before .loop .c)
-    (c .before .before .before .before .before .pre .1) (c .before .before .before .before .loop .inv .0)
-    (c .before .before .if1 .left) in
-    let y =
-    zero-behind (c .before .before .before .before .before .args .waiting .now)
-    (c .before .before .before .before .before .args .count)
-    ((c .before .before .before .before .loop .c) + 1) (c .before .before .before .before .before .pre .1)
-    (omega arith) (c .if2 .left) in
+    let if1 = c.before.before.if1 in
+    let loop = c.before.before.before.before.loop in
+    let start = c.before.before.before.before.before in
+    let args = start.args in
+    let pre = start.pre in
+    let z = zero-behind args.waiting.now args.count loop.c pre.1 loop.inv.0 if1.left in
+    let y = zero-behind args.waiting.now args.count (loop.c + 1) pre.1 (omega arith) c.if2.left in
     omega arith
 
 loop-again : tie.Need-loop-again Inv-loop μ-loop
 loop-again c =
-    let z =
-    zero-behind (c .before .before .before .before .before .args .waiting .now)
-    (c .before .before .before .before .before .args .count) (c .before .before .before .before .loop .c)
-    (c .before .before .before .before .before .pre .1) (c .before .before .before .before .loop .inv .0)
-    (c .before .before .if1 .left) in
-    let y =
-    zero-behind (c .before .before .before .before .before .args .waiting .now)
-    (c .before .before .before .before .before .args .count)
-    ((c .before .before .before .before .loop .c) + 1) (c .before .before .before .before .before .pre .1)
-    (omega arith) (c .if2 .left) in (
+    let if1 = c.before.before.if1 in
+    let loop = c.before.before.before.before.loop in
+    let start = c.before.before.before.before.before in
+    let args = start.args in
+    let pre = start.pre in
+    let z = zero-behind args.waiting.now args.count loop.c pre.1 loop.inv.0 if1.left in
+    let y = zero-behind args.waiting.now args.count (loop.c + 1) pre.1 (omega arith) c.if2.left in (
       omega arith,
-      two-more (isKey (c .before .before .before .before .before .args .waiting .now) 0)
-          (c .before .before .before .before .loop .c) (c .before .before .before .before .loop .inv .1)
-          (eq-false _ _ (c .before .before .if1 .left)) (eq-false _ _ (c .if2 .left)),
+      two-more (isKey args.waiting.now 0) loop.c loop.inv.1 (eq-false _ _ if1.left)
+          (eq-false _ _ c.if2.left),
     )
 
 pub lowest-ready-spec : {M : Type 1} → statement M

@@ -17,18 +17,22 @@ enum-known-kind c = search needs
 
 release-step-requires : tie.Need-release-step-requires
 release-step-requires c κs =
-    let a = c .before .before .before .before .before .before .args in
-    let p = c .before .before .before .before .before .before .pre in
+    let kind = c.before.before.kind in
+    let call-of = c.before.before.before.before.call-of in
+    let start = c.before.before.before.before.before.before in
+    let args = start.args in
+    let pre = start.pre in
     let (l, e) =
-    told-step (shapeOf (a .table .now)) (a .call) (p .1 .0) (c .before .before .kind .given .0 .0)
-    (sym (c .before .before .before .before .call-of .ensures) ∙ c .before .before .kind .given .1) in (
-      p .0,
+    told-step (shapeOf args.table.now) args.call pre.1.0 kind.given.0.0
+    (sym call-of.ensures ∙ kind.given.1) in (
+      pre.0,
       (
         l,
         (
-          p .1 .1 .0,
-          subst (λ d. (k : ℕ) → into (shapeOf (a .table .now)) (only d) k ≤ getD (a .waiting .now) k 0) (sym e)
-              (p .1 .1 .1),
+          pre.1.1.0,
+          subst
+              (λ d. (k : ℕ) → into (shapeOf args.table.now) (only d) k ≤ getD
+              args.waiting.now k 0) (sym e) pre.1.1.1,
         ),
       ),
     )
@@ -38,18 +42,22 @@ enum-known-kind-2 c = search needs
 
 release-get-requires : tie.Need-release-get-requires
 release-get-requires c κs =
-    let a = c .before .before .before .before .before .before .args in
-    let p = c .before .before .before .before .before .before .pre in
+    let kind2 = c.before.before.kind2 in
+    let call-of = c.before.before.before.before.call-of in
+    let start = c.before.before.before.before.before.before in
+    let args = start.args in
+    let pre = start.pre in
     let (l, e) =
-    told-get (shapeOf (a .table .now)) (a .call) (p .1 .0) (c .before .before .kind2 .given .0 .0)
-    (sym (c .before .before .before .before .call-of .ensures) ∙ c .before .before .kind2 .given .1) in (
-      p .0,
+    told-get (shapeOf args.table.now) args.call pre.1.0 kind2.given.0.0
+    (sym call-of.ensures ∙ kind2.given.1) in (
+      pre.0,
       (
         l,
         (
-          p .1 .1 .0,
-          subst (λ d. (k : ℕ) → into (shapeOf (a .table .now)) (only d) k ≤ getD (a .waiting .now) k 0) (sym e)
-              (p .1 .1 .1),
+          pre.1.1.0,
+          subst
+              (λ d. (k : ℕ) → into (shapeOf args.table.now) (only d) k ≤ getD
+              args.waiting.now k 0) (sym e) pre.1.1.1,
         ),
       ),
     )
@@ -59,18 +67,22 @@ enum-known-kind-3 c = search needs
 
 release-set-requires : tie.Need-release-set-requires
 release-set-requires c κs =
-    let a = c .before .before .before .before .before .before .args in
-    let p = c .before .before .before .before .before .before .pre in
+    let kind3 = c.before.before.kind3 in
+    let call-of = c.before.before.before.before.call-of in
+    let start = c.before.before.before.before.before.before in
+    let args = start.args in
+    let pre = start.pre in
     let (l, e) =
-    told-set (shapeOf (a .table .now)) (a .call) (p .1 .0) (c .before .before .kind3 .given .0 .0)
-    (sym (c .before .before .before .before .call-of .ensures) ∙ c .before .before .kind3 .given .1) in (
-      p .0,
+    told-set (shapeOf args.table.now) args.call pre.1.0 kind3.given.0.0
+    (sym call-of.ensures ∙ kind3.given.1) in (
+      pre.0,
       (
         l,
         (
-          p .1 .1 .0,
-          subst (λ d. (k : ℕ) → into (shapeOf (a .table .now)) (only d) k ≤ getD (a .waiting .now) k 0) (sym e)
-              (p .1 .1 .1),
+          pre.1.1.0,
+          subst
+              (λ d. (k : ℕ) → into (shapeOf args.table.now) (only d) k ≤ getD
+              args.waiting.now k 0) (sym e) pre.1.1.1,
         ),
       ),
     )
@@ -80,41 +92,49 @@ enum-told c = search needs
 
 returns : tie.Need-returns
 returns c =
-    let a = c .before .before .before .before .before .before .before .args in
-    let p = c .before .before .before .before .before .before .before .pre in
+    let kind = c.before.before.before.kind in
+    let call-of = c.before.before.before.before.before.call-of in
+    let start = c.before.before.before.before.before.before.before in
+    let args = start.args in
+    let pre = start.pre in
     let (l, e) =
-    told-step (shapeOf (a .table .now)) (a .call) (p .1 .0) (c .before .before .before .kind .given .0 .0)
-    (sym (c .before .before .before .before .before .call-of .ensures)
-    ∙ c .before .before .before .kind .given .1) in
-    rw (← e) (c .release-step .ensures)
+    told-step (shapeOf args.table.now) args.call pre.1.0 kind.given.0.0
+    (sym call-of.ensures ∙ kind.given.1) in
+    rw (← e) c.release-step.ensures
 
 returns-2 : tie.Need-returns-2
 returns-2 c =
-    let a = c .before .before .before .before .before .before .before .args in
-    let p = c .before .before .before .before .before .before .before .pre in
+    let kind2 = c.before.before.before.kind2 in
+    let call-of = c.before.before.before.before.before.call-of in
+    let start = c.before.before.before.before.before.before.before in
+    let args = start.args in
+    let pre = start.pre in
     let (l, e) =
-    told-get (shapeOf (a .table .now)) (a .call) (p .1 .0) (c .before .before .before .kind2 .given .0 .0)
-    (sym (c .before .before .before .before .before .call-of .ensures)
-    ∙ c .before .before .before .kind2 .given .1) in
-    rw (← e) (c .release-get .ensures)
+    told-get (shapeOf args.table.now) args.call pre.1.0 kind2.given.0.0
+    (sym call-of.ensures ∙ kind2.given.1) in
+    rw (← e) c.release-get.ensures
 
 returns-3 : tie.Need-returns-3
 returns-3 c =
-    let a = c .before .before .before .before .before .before .before .args in
-    let p = c .before .before .before .before .before .before .before .pre in
+    let kind3 = c.before.before.before.kind3 in
+    let call-of = c.before.before.before.before.before.call-of in
+    let start = c.before.before.before.before.before.before.before in
+    let args = start.args in
+    let pre = start.pre in
     let (l, e) =
-    told-set (shapeOf (a .table .now)) (a .call) (p .1 .0) (c .before .before .before .kind3 .given .0 .0)
-    (sym (c .before .before .before .before .before .call-of .ensures)
-    ∙ c .before .before .before .kind3 .given .1) in
-    rw (← e) (c .release-set .ensures)
+    told-set (shapeOf args.table.now) args.call pre.1.0 kind3.given.0.0
+    (sym call-of.ensures ∙ kind3.given.1) in
+    rw (← e) c.release-set.ensures
 
 returns-4 : tie.Need-returns-4
 returns-4 c =
-    let a = c .before .before .before .before .args in
-    let p = c .before .before .before .before .pre in
+    let call-of = c.before.before.call-of in
+    let start = c.before.before.before.before in
+    let args = start.args in
+    let pre = start.pre in
     absurd
-    (told-none (shapeOf (a .table .now)) (a .call) (p .1 .0)
-    (sym (c .before .before .call-of .ensures) ∙ c .enum-told .given .1))
+    (told-none (shapeOf args.table.now) args.call pre.1.0
+    (sym call-of.ensures ∙ c.enum-told.given.1))
 
 pub release-spec : {M : Type 1} → statement M
 release-spec =

@@ -27,38 +27,40 @@ cast-lower-keyed c = search needs
 
 lower-keyed-requires : tie.Need-lower-keyed-requires
 lower-keyed-requires c κs =
-    let a = c .before .before .before .before .before .args in
-    let p = c .before .before .before .before .before .pre in
-    let e =
-    ap₂ _+_ (c .before .before .before .unit-count .ensures .0)
-    (c .before .before .output-count .ensures .0) in (
-      p .1 .1 .0,
+    let input-sources = c.before.input-sources in
+    let output-count = c.before.before.output-count in
+    let unit-count = c.before.before.before.unit-count in
+    let start = c.before.before.before.before.before in
+    let args = start.args in
+    let pre = start.pre in
+    let e = ap₂ _+_ unit-count.ensures.0 output-count.ensures.0 in (
+      pre.1.1.0,
       (
         omega (
           arith,
           e,
-          ap length (c .before .input-sources .ensures),
-          long-sources (a .table .now) (p .0 .long),
-          fits (a .table .now) (p .0),
+          ap length input-sources.ensures,
+          long-sources args.table.now pre.0.long,
+          fits args.table.now pre.0,
         ),
-        (λ k.
-            rw
-            (hits-readers (a .table .now) (p .0) (a .output) _ _ (p .1 .0) e (c .before .input-sources .ensures) k)
-            (p .1 .1 .1 k)),
+        (λ k. rw
+            (hits-readers args.table.now pre.0 args.output _ _ pre.1.0 e
+            input-sources.ensures k) (pre.1.1.1 k)),
       ),
     )
 
 returns : tie.Need-returns
 returns c =
-    let a = c .before .before .before .before .before .before .args in
-    let p = c .before .before .before .before .before .before .pre in
-    let e =
-    ap₂ _+_ (c .before .before .before .before .unit-count .ensures .0)
-    (c .before .before .before .output-count .ensures .0) in
+    let input-sources = c.before.before.input-sources in
+    let output-count = c.before.before.before.output-count in
+    let unit-count = c.before.before.before.before.unit-count in
+    let start = c.before.before.before.before.before.before in
+    let args = start.args in
+    let pre = start.pre in
+    let e = ap₂ _+_ unit-count.ensures.0 output-count.ensures.0 in
     less-as _ _ _ _
-    (λ k.
-    hits-readers (a .table .now) (p .0) (a .output) _ _ (p .1 .0) e (c .before .before .input-sources .ensures)
-    k) (c .lower-keyed .ensures)
+    (λ k. hits-readers args.table.now pre.0 args.output _ _ pre.1.0 e input-sources.ensures k)
+    c.lower-keyed.ensures
 
 pub release-get-spec : {M : Type 1} → statement M
 release-get-spec =

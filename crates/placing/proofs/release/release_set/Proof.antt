@@ -22,56 +22,66 @@ unit-count-requires c κs = search needs
 
 lower-fed-requires : tie.Need-lower-fed-requires
 lower-fed-requires c κs =
-    let a = c .before .before .before .before .before .args in
-    let p = c .before .before .before .before .before .pre in
+    let unit-count = c.before.unit-count in
+    let feed-count = c.before.before.feed-count in
+    let feed-pairs = c.before.before.before.feed-pairs in
+    let start = c.before.before.before.before.before in
+    let args = start.args in
+    let pre = start.pre in
     let g =
-    set-gives (a .table .now) (p .0) (a .input) _ _ _ (p .1 .0) (c .before .unit-count .ensures .0)
-    (c .before .before .feed-count .ensures .0) (c .before .before .before .feed-pairs .ensures) in (
-      p .1 .1 .0,
+    set-gives args.table.now pre.0 args.input _ _ _ pre.1.0 unit-count.ensures.0
+    feed-count.ensures.0 feed-pairs.ensures in (
+      pre.1.1.0,
       (
         omega (
           arith,
-          ap length (c .before .before .before .feed-pairs .ensures),
-          long-pairs (a .table .now) (p .0 .long),
-          c .before .before .feed-count .ensures .0,
+          ap length feed-pairs.ensures,
+          long-pairs args.table.now pre.0.long,
+          feed-count.ensures.0,
         ),
         (
-          fed-fits (a .table .now) (p .0) _ _ _ (c .before .unit-count .ensures .0)
-              (c .before .before .feed-count .ensures .0) (c .before .before .before .feed-pairs .ensures),
-          (λ k. omega (arith, g k, p .1 .1 .1 k)),
+          fed-fits args.table.now pre.0 _ _ _ unit-count.ensures.0 feed-count.ensures.0
+              feed-pairs.ensures,
+          (λ k. omega (arith, g k, pre.1.1.1 k)),
         ),
       ),
     )
 
 release-unit-requires : tie.Need-release-unit-requires
 release-unit-requires c κs =
-    let a = c .before .before .before .before .before .before .before .args in
-    let p = c .before .before .before .before .before .before .before .pre in
+    let lower-fed = c.before.lower-fed in
+    let unit-count = c.before.before.before.unit-count in
+    let feed-count = c.before.before.before.before.feed-count in
+    let feed-pairs = c.before.before.before.before.before.feed-pairs in
+    let start = c.before.before.before.before.before.before.before in
+    let args = start.args in
+    let pre = start.pre in
     let g =
-    set-gives (a .table .now) (p .0) (a .input) _ _ _ (p .1 .0)
-    (c .before .before .before .unit-count .ensures .0)
-    (c .before .before .before .before .feed-count .ensures .0)
-    (c .before .before .before .before .before .feed-pairs .ensures) in (
-      p .0,
+    set-gives args.table.now pre.0 args.input _ _ _ pre.1.0 unit-count.ensures.0
+    feed-count.ensures.0 feed-pairs.ensures in (
+      pre.0,
       (
-        p .1 .0,
+        pre.1.0,
         (
-          c .before .lower-fed .ensures .long ∙ p .1 .1 .0,
-          less-left _ _ _ _ _ g (p .1 .1 .1) (c .before .lower-fed .ensures),
+          lower-fed.ensures.long ∙ pre.1.1.0,
+          less-left _ _ _ _ _ g pre.1.1.1 lower-fed.ensures,
         ),
       ),
     )
 
 returns : tie.Need-returns
 returns c =
-    let a = c .before .before .before .before .before .before .before .before .args in
-    let p = c .before .before .before .before .before .before .before .before .pre in
+    let lower-fed = c.before.before.lower-fed in
+    let unit-count = c.before.before.before.before.unit-count in
+    let feed-count = c.before.before.before.before.before.feed-count in
+    let at-feed-pairs = c.before.before.before.before.before.before in
+    let feed-pairs = at-feed-pairs.feed-pairs in
+    let args = at-feed-pairs.before.before.args in
+    let pre = at-feed-pairs.before.before.pre in
     let g =
-    set-gives (a .table .now) (p .0) (a .input) _ _ _ (p .1 .0)
-    (c .before .before .before .before .unit-count .ensures .0)
-    (c .before .before .before .before .before .feed-count .ensures .0)
-    (c .before .before .before .before .before .before .feed-pairs .ensures) in
-    less-both _ _ _ _ _ _ g (c .before .before .lower-fed .ensures) (c .release-unit .ensures)
+    set-gives args.table.now pre.0 args.input _ _ _ pre.1.0 unit-count.ensures.0
+    feed-count.ensures.0 feed-pairs.ensures in
+    less-both _ _ _ _ _ _ g lower-fed.ensures c.release-unit.ensures
 
 pub release-set-spec : {M : Type 1} → statement M
 release-set-spec =

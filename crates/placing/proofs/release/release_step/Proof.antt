@@ -27,27 +27,28 @@ cast-lower-keyed c = search needs
 
 lower-keyed-requires : tie.Need-lower-keyed-requires
 lower-keyed-requires c κs =
-    let a = c .before .before .before .before .before .args in
-    let p = c .before .before .before .before .before .pre in (
-      p .1 .1 .0,
+    let output-owners = c.before.output-owners in
+    let unit-count = c.before.before.before.unit-count in
+    let start = c.before.before.before.before.before in
+    let args = start.args in
+    let pre = start.pre in (
+      pre.1.1.0,
       (
         omega (
           arith,
-          c .before .before .before .unit-count .ensures .0,
-          ap length (c .before .output-owners .ensures),
-          long-output-owners (a .table .now) (p .0 .long),
-          fits (a .table .now) (p .0),
+          unit-count.ensures.0,
+          ap length output-owners.ensures,
+          long-output-owners args.table.now pre.0.long,
+          fits args.table.now pre.0,
         ),
-        (λ k.
-            omega (
-              arith,
-              p .1 .1 .1 k,
-              step-gives (a .table .now) (p .0) (a .unit) (c .before .before .before .unit-count .result)
-                  (units (a .table .now) + outputs (a .table .now)) (c .before .output-owners .result .now)
-                  (inputOwners (a .table .now)) (kinds (a .table .now)) (p .1 .0)
-                  (c .before .before .before .unit-count .ensures .0) refl (c .before .output-owners .ensures) refl refl
-                  k,
-            )),
+        (λ k. omega (
+          arith,
+          pre.1.1.1 k,
+          step-gives args.table.now pre.0 args.unit unit-count.result
+              (units args.table.now + outputs args.table.now) output-owners.result.now
+              (inputOwners args.table.now) (kinds args.table.now) pre.1.0
+              unit-count.ensures.0 refl output-owners.ensures refl refl k,
+        )),
       ),
     )
 
@@ -62,41 +63,58 @@ input-kinds-requires c κs = search needs
 
 lower-both-requires : tie.Need-lower-both-requires
 lower-both-requires c κs =
-    let a = c .before .before .before .before .before .before .before .before .before .args in
-    let p = c .before .before .before .before .before .before .before .before .before .pre in
-    let e =
-    ap₂ _+_ (c .before .before .before .before .before .before .before .unit-count .ensures .0)
-    (c .before .before .before .before .before .before .output-count .ensures .0) in
-    let l = p .0 .long in
-    let i = c .before .before .input-owners .ensures in
-    let k = c .before .input-kinds .ensures in (
-      c .before .before .before .lower-keyed .ensures .long ∙ p .1 .1 .0,
+    let input-kinds = c.before.input-kinds in
+    let input-owners = c.before.before.input-owners in
+    let lower-keyed = c.before.before.before.lower-keyed in
+    let output-owners = c.before.before.before.before.before.output-owners in
+    let at-output-count = c.before.before.before.before.before.before in
+    let output-count = at-output-count.output-count in
+    let unit-count = at-output-count.before.unit-count in
+    let start = at-output-count.before.before.before in
+    let args = start.args in
+    let pre = start.pre in
+    let e = ap₂ _+_ unit-count.ensures.0 output-count.ensures.0 in
+    let l = pre.0.long in
+    let i = input-owners.ensures in
+    let k = input-kinds.ensures in (
+      lower-keyed.ensures.long ∙ pre.1.1.0,
       (
-        ap length i ∙ long-input-owners (a .table .now) l ∙ sym (ap length k ∙ long-kinds (a .table .now) l),
+        ap length i
+            ∙ long-input-owners args.table.now l
+            ∙ sym (ap length k ∙ long-kinds args.table.now l),
         (
-          omega (arith, e, ap length i, long-input-owners (a .table .now) l, fits (a .table .now) (p .0)),
+          omega (
+            arith,
+            e,
+            ap length i,
+            long-input-owners args.table.now l,
+            fits args.table.now pre.0,
+          ),
           less-left _ _ _ _ _
-              (step-gives (a .table .now) (p .0) (a .unit) _ _ _ _ _ (p .1 .0)
-              (c .before .before .before .before .before .before .before .unit-count .ensures .0) e
-              (c .before .before .before .before .before .output-owners .ensures) i k) (p .1 .1 .1)
-              (c .before .before .before .lower-keyed .ensures),
+              (step-gives args.table.now pre.0 args.unit _ _ _ _ _ pre.1.0
+              unit-count.ensures.0 e output-owners.ensures i k) pre.1.1.1
+              lower-keyed.ensures,
         ),
       ),
     )
 
 returns : tie.Need-returns
 returns c =
-    let a = c .before .before .before .before .before .before .before .before .before .before .args in
-    let p = c .before .before .before .before .before .before .before .before .before .before .pre in
-    let e =
-    ap₂ _+_ (c .before .before .before .before .before .before .before .before .unit-count .ensures .0)
-    (c .before .before .before .before .before .before .before .output-count .ensures .0) in
+    let input-kinds = c.before.before.input-kinds in
+    let input-owners = c.before.before.before.input-owners in
+    let lower-keyed = c.before.before.before.before.lower-keyed in
+    let at-output-owners = c.before.before.before.before.before.before in
+    let output-owners = at-output-owners.output-owners in
+    let output-count = at-output-owners.before.output-count in
+    let unit-count = at-output-owners.before.before.unit-count in
+    let start = at-output-owners.before.before.before.before in
+    let args = start.args in
+    let pre = start.pre in
+    let e = ap₂ _+_ unit-count.ensures.0 output-count.ensures.0 in
     less-both _ _ _ _ _ _
-    (step-gives (a .table .now) (p .0) (a .unit) _ _ _ _ _ (p .1 .0)
-    (c .before .before .before .before .before .before .before .before .unit-count .ensures .0) e
-    (c .before .before .before .before .before .before .output-owners .ensures)
-    (c .before .before .before .input-owners .ensures) (c .before .before .input-kinds .ensures))
-    (c .before .before .before .before .lower-keyed .ensures) (c .lower-both .ensures)
+    (step-gives args.table.now pre.0 args.unit _ _ _ _ _ pre.1.0 unit-count.ensures.0 e
+    output-owners.ensures input-owners.ensures input-kinds.ensures) lower-keyed.ensures
+    c.lower-both.ensures
 
 pub release-step-spec : {M : Type 1} → statement M
 release-step-spec =

@@ -21,61 +21,74 @@ byte-requires-2 c κs = search needs
 
 element-copy-out-waiting : tie.Need-element-copy-out-waiting
 element-copy-out-waiting c =
-    let a = c .before .before .before .before .before .before .args in
-    let p = c .before .before .before .before .before .before .pre in
-    own-fits (a .table .now) (p .0) (a .input) (c .byte2 .result) (p .1 .0)
-    (c .byte2 .ensures .0 ∙ ap (λ l. getD l (a .input) 0) (c .before .input-owners .ensures))
+    let input-owners = c.before.input-owners in
+    let start = c.before.before.before.before.before.before in
+    let args = start.args in
+    let pre = start.pre in
+    own-fits args.table.now pre.0 args.input c.byte2.result pre.1.0
+    (c.byte2.ensures.0 ∙ ap (λ l. getD l args.input 0) input-owners.ensures)
 
 sub-waiting : tie.Need-sub-waiting
 sub-waiting c =
-    let a = c .before .before .before .before .before .before .before .args in
-    let p = c .before .before .before .before .before .before .before .pre in
-    let k =
-    c .before .before .before .before .byte .ensures .0
-    ∙ ap (λ l. getD l (a .input) 0) (c .before .before .before .before .before .input-kinds .ensures) in
-    let o =
-    c .before .byte2 .ensures .0 ∙ ap (λ l. getD l (a .input) 0) (c .before .before .input-owners .ensures) in
+    let byte2 = c.before.byte2 in
+    let input-owners = c.before.before.input-owners in
+    let if1 = c.before.before.before.if1 in
+    let byte = c.before.before.before.before.byte in
+    let input-kinds = c.before.before.before.before.before.input-kinds in
+    let start = c.before.before.before.before.before.before.before in
+    let args = start.args in
+    let pre = start.pre in
+    let k = byte.ensures.0 ∙ ap (λ l. getD l args.input 0) input-kinds.ensures in
+    let o = byte2.ensures.0 ∙ ap (λ l. getD l args.input 0) input-owners.ensures in
     omega (
       arith,
-      p .1 .1 .1 (c .before .byte2 .result),
-      own-some (a .table .now) (p .0) (a .input) (c .before .before .before .before .byte .result)
-          (c .before .byte2 .result) k (c .before .before .before .if1 .taken) o,
+      pre.1.1.1 byte2.result,
+      own-some args.table.now pre.0 args.input byte.result byte2.result k if1.taken o,
     )
 
 element-write-waiting : tie.Need-element-write-waiting
 element-write-waiting c =
-    let a = c .before .before .before .before .before .before .before .args in
-    let p = c .before .before .before .before .before .before .before .pre in
-    own-fits (a .table .now) (p .0) (a .input) (c .before .byte2 .result) (p .1 .0)
-    (c .before .byte2 .ensures .0 ∙ ap (λ l. getD l (a .input) 0) (c .before .before .input-owners .ensures))
+    let byte2 = c.before.byte2 in
+    let input-owners = c.before.before.input-owners in
+    let start = c.before.before.before.before.before.before.before in
+    let args = start.args in
+    let pre = start.pre in
+    own-fits args.table.now pre.0 args.input byte2.result pre.1.0
+    (byte2.ensures.0 ∙ ap (λ l. getD l args.input 0) input-owners.ensures)
 
 returns : tie.Need-returns
 returns c =
-    let a = c .before .before .before .before .before .before .before .args in
-    let p = c .before .before .before .before .before .before .before .pre in
-    let k =
-    c .before .before .before .before .byte .ensures .0
-    ∙ ap (λ l. getD l (a .input) 0) (c .before .before .before .before .before .input-kinds .ensures) in
-    let o =
-    c .before .byte2 .ensures .0 ∙ ap (λ l. getD l (a .input) 0) (c .before .before .input-owners .ensures) in
-    own-lower (a .table .now) (p .0) (a .input) (c .before .before .before .before .byte .result)
-    (c .before .byte2 .result) (a .waiting .now) k (c .before .before .before .if1 .taken) o
-    (omega (arith, p .1 .1 .0, own-fits (a .table .now) (p .0) (a .input) (c .before .byte2 .result) (p .1 .0) o))
+    let byte2 = c.before.byte2 in
+    let input-owners = c.before.before.input-owners in
+    let if1 = c.before.before.before.if1 in
+    let byte = c.before.before.before.before.byte in
+    let input-kinds = c.before.before.before.before.before.input-kinds in
+    let start = c.before.before.before.before.before.before.before in
+    let args = start.args in
+    let pre = start.pre in
+    let k = byte.ensures.0 ∙ ap (λ l. getD l args.input 0) input-kinds.ensures in
+    let o = byte2.ensures.0 ∙ ap (λ l. getD l args.input 0) input-owners.ensures in
+    own-lower args.table.now pre.0 args.input byte.result byte2.result args.waiting.now k if1.taken
+    o (omega (arith, pre.1.1.0, own-fits args.table.now pre.0 args.input byte2.result pre.1.0 o))
     (omega (
       arith,
-      p .1 .1 .1 (c .before .byte2 .result),
-      own-some (a .table .now) (p .0) (a .input) (c .before .before .before .before .byte .result)
-          (c .before .byte2 .result) k (c .before .before .before .if1 .taken) o,
+      pre.1.1.1 byte2.result,
+      own-some args.table.now pre.0 args.input byte.result byte2.result k if1.taken o,
     ))
 
 returns-2 : tie.Need-returns-2
 returns-2 c =
-    let a = c .before .before .before .before .args in
-    let p = c .before .before .before .before .pre in
-    let k =
-    c .before .byte .ensures .0 ∙ ap (λ l. getD l (a .input) 0) (c .before .before .input-kinds .ensures) in
-    record
-    { long = search needs; less = λ m. omega (arith, own-none (a .table .now) (p .0) (a .input) (c .before .byte .result) k (c .if1 .left) m) }
+    let byte = c.before.byte in
+    let input-kinds = c.before.before.input-kinds in
+    let start = c.before.before.before.before in
+    let args = start.args in
+    let pre = start.pre in
+    let k = byte.ensures.0 ∙ ap (λ l. getD l args.input 0) input-kinds.ensures in
+    record {
+      long = search needs;
+      less =
+          λ m. omega (arith, own-none args.table.now pre.0 args.input byte.result k c.if1.left m);
+    }
 
 pub release-unit-spec : {M : Type 1} → statement M
 release-unit-spec =

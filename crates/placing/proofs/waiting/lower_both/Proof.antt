@@ -33,14 +33,17 @@ element-copy-out-waiting c = search needs
 
 sub-waiting : tie.Need-sub-waiting Inv-loop μ-loop
 sub-waiting c =
-    let a = c .before .before .before .before .before .before .before .args in
-    let l = c .before .before .before .before .before .before .loop in
-    lower-some (areKeys (a .keys .now) (a .key) (a .others .now) (a .other)) (nth (a .first)) (l .i)
-    (length (a .keys .now)) (a .waiting .now) (l .waiting)
-    (c .before .before .before .before .before .loop-test .taken)
-    (both-keys (a .keys .now) (a .key) (a .others .now) (a .other) (l .i) (c .before .before .before .if1 .taken)
-    (c .before .if2 .taken)) (c .before .before .before .before .before .before .before .pre .1 .1 .1)
-    (l .inv .1)
+    let if2 = c.before.if2 in
+    let if1 = c.before.before.before.if1 in
+    let loop-test = c.before.before.before.before.before.loop-test in
+    let at-loop = c.before.before.before.before.before.before in
+    let loop = at-loop.loop in
+    let args = at-loop.before.args in
+    let pre = at-loop.before.pre in
+    lower-some (areKeys args.keys.now args.key args.others.now args.other) (nth args.first) loop.i
+    (length args.keys.now) args.waiting.now loop.waiting loop-test.taken
+    (both-keys args.keys.now args.key args.others.now args.other loop.i if1.taken if2.taken)
+    pre.1.1.1 loop.inv.1
 
 element-write-waiting : tie.Need-element-write-waiting Inv-loop μ-loop
 element-write-waiting c = search needs
@@ -53,36 +56,38 @@ loop-less c = search needs
 
 loop-again : tie.Need-loop-again Inv-loop μ-loop
 loop-again c =
-    let a = c .before .before .before .before .args in
-    let l = c .before .before .before .loop in (
+    let loop-test = c.before.before.loop-test in
+    let loop = c.before.before.before.loop in
+    let start = c.before.before.before.before in
+    let args = start.args in
+    let pre = start.pre in (
       search needs,
       ⊎-elim
-          (λ w.
-          rw (w .4)
-          (lower-hit (areKeys (a .keys .now) (a .key) (a .others .now) (a .other)) (nth (a .first)) (l .i)
-          (length (a .keys .now)) (a .waiting .now) (l .waiting) (c .before .before .loop-test .taken)
-          (both-keys (a .keys .now) (a .key) (a .others .now) (a .other) (l .i) (w .0 .taken) (w .2 .taken))
-          (search needs) (c .before .before .before .before .pre .1 .1 .1) (l .inv .1)))
+          (λ w. rw (w .4)
+          (lower-hit (areKeys args.keys.now args.key args.others.now args.other) (nth args.first)
+          loop.i (length args.keys.now) args.waiting.now loop.waiting loop-test.taken
+          (both-keys args.keys.now args.key args.others.now args.other loop.i (w .0 .taken)
+          (w .2 .taken)) (search needs) pre.1.1.1 loop.inv.1))
           (⊎-elim
-          (λ w.
-          rw (w .3)
-          (less-miss (areKeys (a .keys .now) (a .key) (a .others .now) (a .other)) (nth (a .first)) (l .i)
-          (a .waiting .now) (l .waiting)
-          (second-other (a .keys .now) (a .key) (a .others .now) (a .other) (l .i) (w .2 .left)) (l .inv .1)))
-          (λ w.
-          rw (w .1)
-          (less-miss (areKeys (a .keys .now) (a .key) (a .others .now) (a .other)) (nth (a .first)) (l .i)
-          (a .waiting .now) (l .waiting)
-          (first-other (a .keys .now) (a .key) (a .others .now) (a .other) (l .i) (w .0 .left)) (l .inv .1))))
-          (c .if1 .came),
+          (λ w. rw (w .3)
+          (less-miss (areKeys args.keys.now args.key args.others.now args.other) (nth args.first)
+          loop.i args.waiting.now loop.waiting
+          (second-other args.keys.now args.key args.others.now args.other loop.i (w .2 .left))
+          loop.inv.1))
+          (λ w. rw (w .1)
+          (less-miss (areKeys args.keys.now args.key args.others.now args.other) (nth args.first)
+          loop.i args.waiting.now loop.waiting
+          (first-other args.keys.now args.key args.others.now args.other loop.i (w .0 .left))
+          loop.inv.1))) c.if1.came,
     )
 
 returns : tie.Need-returns Inv-loop μ-loop
 returns c =
-    let a = c .before .before .args in
-    let l = c .before .loop in
-    less-all (areKeys (a .keys .now) (a .key) (a .others .now) (a .other)) (nth (a .first))
-    (length (a .keys .now)) (l .i) (a .waiting .now) (l .waiting) (l .inv .0) (c .loop-test .left) (l .inv .1)
+    let loop = c.before.loop in
+    let args = c.before.before.args in
+    less-all (areKeys args.keys.now args.key args.others.now args.other) (nth args.first)
+    (length args.keys.now) loop.i args.waiting.now loop.waiting loop.inv.0 c.loop-test.left
+    loop.inv.1
 
 pub lower-both-spec : {M : Type 1} → statement M
 lower-both-spec =

@@ -36,32 +36,42 @@ shared-slice-read-output c = search needs
 
 cast-output : tie.Need-cast-output Inv-loop μ-loop
 cast-output c =
-    record
-    { fits = omega (arith, c .before .before .before .before .before .pre .1 .1 .0 (c .before .before .before .before .loop .k) (c .before .before .before .loop-test .taken)) }
+    let loop-test = c.before.before.before.loop-test in
+    let loop = c.before.before.before.before.loop in
+    let pre = c.before.before.before.before.before.pre in
+    record { fits = omega (arith, pre.1.1.0 loop.k loop-test.taken) }
 
 add-waiting : tie.Need-add-waiting Inv-loop μ-loop
 add-waiting c =
-    record
-    { fits = omega (arith, c .before .before .before .before .before .pre .1 .1 .0 (c .before .before .before .before .loop .k) (c .before .before .before .loop-test .taken)) }
+    let loop-test = c.before.before.before.loop-test in
+    let loop = c.before.before.before.before.loop in
+    let pre = c.before.before.before.before.before.pre in
+    record { fits = omega (arith, pre.1.1.0 loop.k loop-test.taken) }
 
 element-copy-out-waiting : tie.Need-element-copy-out-waiting Inv-loop μ-loop
 element-copy-out-waiting c =
-    c .before .before .before .before .before .pre .1 .1 .0 (c .before .before .before .before .loop .k)
-    (c .before .before .before .loop-test .taken)
+    let loop-test = c.before.before.before.loop-test in
+    let loop = c.before.before.before.before.loop in
+    let pre = c.before.before.before.before.before.pre in
+    pre.1.1.0 loop.k loop-test.taken
 
 sub-waiting : tie.Need-sub-waiting Inv-loop μ-loop
 sub-waiting c =
-    let a = c .before .before .before .before .before .before .args in
-    let l = c .before .before .before .before .before .loop in
-    lower-some (isInput (a .pairs .now) (a .input)) (fed (a .pairs .now) (a .first)) (l .k) (a .count)
-    (a .waiting .now) (l .waiting) (c .before .before .before .before .loop-test .taken)
-    (eq-true _ _ (c .before .before .if1 .taken))
-    (c .before .before .before .before .before .before .pre .1 .1 .1) (l .inv .1)
+    let if1 = c.before.before.if1 in
+    let loop-test = c.before.before.before.before.loop-test in
+    let loop = c.before.before.before.before.before.loop in
+    let start = c.before.before.before.before.before.before in
+    let args = start.args in
+    let pre = start.pre in
+    lower-some (isInput args.pairs.now args.input) (fed args.pairs.now args.first) loop.k args.count
+    args.waiting.now loop.waiting loop-test.taken (eq-true _ _ if1.taken) pre.1.1.1 loop.inv.1
 
 element-write-waiting : tie.Need-element-write-waiting Inv-loop μ-loop
 element-write-waiting c =
-    c .before .before .before .before .before .before .pre .1 .1 .0
-    (c .before .before .before .before .before .loop .k) (c .before .before .before .before .loop-test .taken)
+    let loop-test = c.before.before.before.before.loop-test in
+    let loop = c.before.before.before.before.before.loop in
+    let pre = c.before.before.before.before.before.before.pre in
+    pre.1.1.0 loop.k loop-test.taken
 
 add-k : tie.Need-add-k Inv-loop μ-loop
 add-k c = search needs
@@ -71,29 +81,28 @@ loop-less c = search needs
 
 loop-again : tie.Need-loop-again Inv-loop μ-loop
 loop-again c =
-    let a = c .before .before .before .before .args in
-    let l = c .before .before .before .loop in (
+    let loop-test = c.before.before.loop-test in
+    let loop = c.before.before.before.loop in
+    let start = c.before.before.before.before in
+    let args = start.args in
+    let pre = start.pre in (
       search needs,
       ⊎-elim
-          (λ w.
-          rw (w .3)
-          (lower-hit (isInput (a .pairs .now) (a .input)) (fed (a .pairs .now) (a .first)) (l .k) (a .count)
-          (a .waiting .now) (l .waiting) (c .before .before .loop-test .taken) (eq-true _ _ (w .0 .taken))
-          (omega
-          (arith, c .before .before .before .before .pre .1 .1 .0 (l .k) (c .before .before .loop-test .taken)))
-          (c .before .before .before .before .pre .1 .1 .1) (l .inv .1)))
-          (λ w.
-          rw (w .1)
-          (less-miss (isInput (a .pairs .now) (a .input)) (fed (a .pairs .now) (a .first)) (l .k) (a .waiting .now)
-          (l .waiting) (eq-false _ _ (w .0 .left)) (l .inv .1))) (c .if1 .came),
+          (λ w. rw (w .3)
+          (lower-hit (isInput args.pairs.now args.input) (fed args.pairs.now args.first) loop.k
+          args.count args.waiting.now loop.waiting loop-test.taken (eq-true _ _ (w .0 .taken))
+          (omega (arith, pre.1.1.0 loop.k loop-test.taken)) pre.1.1.1 loop.inv.1))
+          (λ w. rw (w .1)
+          (less-miss (isInput args.pairs.now args.input) (fed args.pairs.now args.first) loop.k
+          args.waiting.now loop.waiting (eq-false _ _ (w .0 .left)) loop.inv.1)) c.if1.came,
     )
 
 returns : tie.Need-returns Inv-loop μ-loop
 returns c =
-    let a = c .before .before .args in
-    let l = c .before .loop in
-    less-all (isInput (a .pairs .now) (a .input)) (fed (a .pairs .now) (a .first)) (a .count) (l .k)
-    (a .waiting .now) (l .waiting) (l .inv .0) (c .loop-test .left) (l .inv .1)
+    let loop = c.before.loop in
+    let args = c.before.before.args in
+    less-all (isInput args.pairs.now args.input) (fed args.pairs.now args.first) args.count loop.k
+    args.waiting.now loop.waiting loop.inv.0 c.loop-test.left loop.inv.1
 
 pub lower-fed-spec : {M : Type 1} → statement M
 lower-fed-spec =

@@ -30,11 +30,14 @@ element-copy-out-waiting c = search needs
 
 sub-waiting : tie.Need-sub-waiting Inv-loop μ-loop
 sub-waiting c =
-    let a = c .before .before .before .before .before .args in
-    let l = c .before .before .before .before .loop in
-    lower-some (isKey (a .keys .now) (a .key)) (nth (a .first)) (l .i) (length (a .keys .now)) (a .waiting .now)
-    (l .waiting) (c .before .before .before .loop-test .taken) (eq-true _ _ (c .before .if1 .taken))
-    (c .before .before .before .before .before .pre .1 .1) (l .inv .1)
+    let if1 = c.before.if1 in
+    let loop-test = c.before.before.before.loop-test in
+    let loop = c.before.before.before.before.loop in
+    let start = c.before.before.before.before.before in
+    let args = start.args in
+    let pre = start.pre in
+    lower-some (isKey args.keys.now args.key) (nth args.first) loop.i (length args.keys.now)
+    args.waiting.now loop.waiting loop-test.taken (eq-true _ _ if1.taken) pre.1.1 loop.inv.1
 
 element-write-waiting : tie.Need-element-write-waiting Inv-loop μ-loop
 element-write-waiting c = search needs
@@ -47,27 +50,28 @@ loop-less c = search needs
 
 loop-again : tie.Need-loop-again Inv-loop μ-loop
 loop-again c =
-    let a = c .before .before .before .before .args in
-    let l = c .before .before .before .loop in (
+    let loop-test = c.before.before.loop-test in
+    let loop = c.before.before.before.loop in
+    let start = c.before.before.before.before in
+    let args = start.args in
+    let pre = start.pre in (
       search needs,
       ⊎-elim
-          (λ w.
-          rw (w .2)
-          (lower-hit (isKey (a .keys .now) (a .key)) (nth (a .first)) (l .i) (length (a .keys .now))
-          (a .waiting .now) (l .waiting) (c .before .before .loop-test .taken) (eq-true _ _ (w .0 .taken))
-          (search needs) (c .before .before .before .before .pre .1 .1) (l .inv .1)))
-          (λ w.
-          rw (w .1)
-          (less-miss (isKey (a .keys .now) (a .key)) (nth (a .first)) (l .i) (a .waiting .now) (l .waiting)
-          (eq-false _ _ (w .0 .left)) (l .inv .1))) (c .if1 .came),
+          (λ w. rw (w .2)
+          (lower-hit (isKey args.keys.now args.key) (nth args.first) loop.i (length args.keys.now)
+          args.waiting.now loop.waiting loop-test.taken (eq-true _ _ (w .0 .taken)) (search needs)
+          pre.1.1 loop.inv.1))
+          (λ w. rw (w .1)
+          (less-miss (isKey args.keys.now args.key) (nth args.first) loop.i args.waiting.now
+          loop.waiting (eq-false _ _ (w .0 .left)) loop.inv.1)) c.if1.came,
     )
 
 returns : tie.Need-returns Inv-loop μ-loop
 returns c =
-    let a = c .before .before .args in
-    let l = c .before .loop in
-    less-all (isKey (a .keys .now) (a .key)) (nth (a .first)) (length (a .keys .now)) (l .i) (a .waiting .now)
-    (l .waiting) (l .inv .0) (c .loop-test .left) (l .inv .1)
+    let loop = c.before.loop in
+    let args = c.before.before.args in
+    less-all (isKey args.keys.now args.key) (nth args.first) (length args.keys.now) loop.i
+    args.waiting.now loop.waiting loop.inv.0 c.loop-test.left loop.inv.1
 
 pub lower-keyed-spec : {M : Type 1} → statement M
 lower-keyed-spec =

@@ -28,29 +28,46 @@ shared-slice-read-output c = search needs
 
 cast-output : tie.Need-cast-output Inv-loop μ-loop
 cast-output c =
-    record
-    { fits = omega (arith, c .before .before .before .pre .1 .1 .0 (c .before .before .loop .k) (c .before .loop-test .taken)) }
+    let loop-test = c.before.loop-test in
+    let loop = c.before.before.loop in
+    let pre = c.before.before.before.pre in
+    record { fits = omega (arith, pre.1.1.0 loop.k loop-test.taken) }
 
 add-waiting : tie.Need-add-waiting Inv-loop μ-loop
 add-waiting c =
-    record
-    { fits = omega (arith, c .before .before .before .pre .1 .1 .0 (c .before .before .loop .k) (c .before .loop-test .taken)) }
+    let loop-test = c.before.loop-test in
+    let loop = c.before.before.loop in
+    let pre = c.before.before.before.pre in
+    record { fits = omega (arith, pre.1.1.0 loop.k loop-test.taken) }
 
 element-copy-out-waiting : tie.Need-element-copy-out-waiting Inv-loop μ-loop
 element-copy-out-waiting c =
-    c .before .before .before .pre .1 .1 .0 (c .before .before .loop .k) (c .before .loop-test .taken)
+    let loop-test = c.before.loop-test in
+    let loop = c.before.before.loop in
+    let pre = c.before.before.before.pre in
+    pre.1.1.0 loop.k loop-test.taken
 
 add-waiting-2 : tie.Need-add-waiting-2 Inv-loop μ-loop
 add-waiting-2 c =
-    let a = c .before .before .before .before .args in
-    let l = c .before .before .before .loop in
-    record
-    { fits = omega (arith, raise-room each (fed (a .pairs .now) (a .first)) (l .k) (a .count) (l .waiting) (a .waiting .now) (c .before .before .loop-test .taken) tt (c .before .before .before .before .pre .1 .1 .1) (l .inv .1)) }
+    let loop-test = c.before.before.loop-test in
+    let loop = c.before.before.before.loop in
+    let start = c.before.before.before.before in
+    let args = start.args in
+    let pre = start.pre in
+    record {
+      fits = omega (
+        arith,
+        raise-room each (fed args.pairs.now args.first) loop.k args.count loop.waiting
+            args.waiting.now loop-test.taken tt pre.1.1.1 loop.inv.1,
+      );
+    }
 
 element-write-waiting : tie.Need-element-write-waiting Inv-loop μ-loop
 element-write-waiting c =
-    c .before .before .before .before .pre .1 .1 .0 (c .before .before .before .loop .k)
-    (c .before .before .loop-test .taken)
+    let loop-test = c.before.before.loop-test in
+    let loop = c.before.before.before.loop in
+    let pre = c.before.before.before.before.pre in
+    pre.1.1.0 loop.k loop-test.taken
 
 add-k : tie.Need-add-k Inv-loop μ-loop
 add-k c = search needs
@@ -60,21 +77,22 @@ loop-less c = search needs
 
 loop-again : tie.Need-loop-again Inv-loop μ-loop
 loop-again c =
-    let a = c .before .before .before .before .args in
-    let l = c .before .before .before .loop in (
+    let loop-test = c.before.before.loop-test in
+    let loop = c.before.before.before.loop in
+    let start = c.before.before.before.before in
+    let args = start.args in
+    let pre = start.pre in (
       search needs,
-      raise-hit each (fed (a .pairs .now) (a .first)) (l .k) (l .waiting) (a .waiting .now) tt
-          (omega
-          (arith, c .before .before .before .before .pre .1 .1 .0 (l .k) (c .before .before .loop-test .taken)))
-          (l .inv .1),
+      raise-hit each (fed args.pairs.now args.first) loop.k loop.waiting args.waiting.now tt
+          (omega (arith, pre.1.1.0 loop.k loop-test.taken)) loop.inv.1,
     )
 
 returns : tie.Need-returns Inv-loop μ-loop
 returns c =
-    let a = c .before .before .args in
-    let l = c .before .loop in
-    less-all each (fed (a .pairs .now) (a .first)) (a .count) (l .k) (l .waiting) (a .waiting .now) (l .inv .0)
-    (c .loop-test .left) (l .inv .1)
+    let loop = c.before.loop in
+    let args = c.before.before.args in
+    less-all each (fed args.pairs.now args.first) args.count loop.k loop.waiting args.waiting.now
+    loop.inv.0 c.loop-test.left loop.inv.1
 
 pub raise-fed-spec : {M : Type 1} → statement M
 raise-fed-spec =

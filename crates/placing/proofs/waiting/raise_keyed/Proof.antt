@@ -31,10 +31,20 @@ element-copy-out-waiting c = search needs
 
 add-waiting-2 : tie.Need-add-waiting-2 Inv-loop μ-loop
 add-waiting-2 c =
-    let a = c .before .before .before .before .before .args in
-    let l = c .before .before .before .before .loop in
-    record
-    { fits = omega (arith, raise-room (isKey (a .keys .now) (a .key)) (nth (a .first)) (l .i) (length (a .keys .now)) (l .waiting) (a .waiting .now) (c .before .before .before .loop-test .taken) (eq-true _ _ (c .before .if1 .taken)) (c .before .before .before .before .before .pre .1 .1) (l .inv .1)) }
+    let if1 = c.before.if1 in
+    let loop-test = c.before.before.before.loop-test in
+    let loop = c.before.before.before.before.loop in
+    let start = c.before.before.before.before.before in
+    let args = start.args in
+    let pre = start.pre in
+    record {
+      fits = omega (
+        arith,
+        raise-room (isKey args.keys.now args.key) (nth args.first) loop.i (length args.keys.now)
+            loop.waiting args.waiting.now loop-test.taken (eq-true _ _ if1.taken) pre.1.1
+            loop.inv.1,
+      );
+    }
 
 element-write-waiting : tie.Need-element-write-waiting Inv-loop μ-loop
 element-write-waiting c = search needs
@@ -47,26 +57,24 @@ loop-less c = search needs
 
 loop-again : tie.Need-loop-again Inv-loop μ-loop
 loop-again c =
-    let a = c .before .before .before .before .args in
-    let l = c .before .before .before .loop in (
+    let loop = c.before.before.before.loop in
+    let args = c.before.before.before.before.args in (
       search needs,
       ⊎-elim
-          (λ w.
-          rw (w .2)
-          (raise-hit (isKey (a .keys .now) (a .key)) (nth (a .first)) (l .i) (l .waiting) (a .waiting .now)
-          (eq-true _ _ (w .0 .taken)) (search needs) (l .inv .1)))
-          (λ w.
-          rw (w .1)
-          (less-miss (isKey (a .keys .now) (a .key)) (nth (a .first)) (l .i) (l .waiting) (a .waiting .now)
-          (eq-false _ _ (w .0 .left)) (l .inv .1))) (c .if1 .came),
+          (λ w. rw (w .2)
+          (raise-hit (isKey args.keys.now args.key) (nth args.first) loop.i loop.waiting
+          args.waiting.now (eq-true _ _ (w .0 .taken)) (search needs) loop.inv.1))
+          (λ w. rw (w .1)
+          (less-miss (isKey args.keys.now args.key) (nth args.first) loop.i loop.waiting
+          args.waiting.now (eq-false _ _ (w .0 .left)) loop.inv.1)) c.if1.came,
     )
 
 returns : tie.Need-returns Inv-loop μ-loop
 returns c =
-    let a = c .before .before .args in
-    let l = c .before .loop in
-    less-all (isKey (a .keys .now) (a .key)) (nth (a .first)) (length (a .keys .now)) (l .i) (l .waiting)
-    (a .waiting .now) (l .inv .0) (c .loop-test .left) (l .inv .1)
+    let loop = c.before.loop in
+    let args = c.before.before.args in
+    less-all (isKey args.keys.now args.key) (nth args.first) (length args.keys.now) loop.i
+    loop.waiting args.waiting.now loop.inv.0 c.loop-test.left loop.inv.1
 
 pub raise-keyed-spec : {M : Type 1} → statement M
 raise-keyed-spec =

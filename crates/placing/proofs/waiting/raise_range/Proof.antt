@@ -8,7 +8,8 @@ use Rattle.placing.specs.Less.{each, nth, hits, Less}
 use Rattle.placing.proofs.Hits.{less-none, less-all, raise-room, raise-hit}
 
 abbrev Inv-loop : tie.InvT-loop
-Inv-loop first count waiting₀ i₀ waiting i = (i ≤ count) × Less (hits each (nth first) i) waiting waiting₀
+Inv-loop first count waiting₀ i₀ waiting i =
+    (i ≤ count) × Less (hits each (nth first) i) waiting waiting₀
 
 abbrev μ-loop : tie.MeasureT-loop
 μ-loop first count waiting₀ i₀ waiting i = count - i
@@ -24,10 +25,18 @@ element-copy-out-waiting c = search needs
 
 add-waiting-2 : tie.Need-add-waiting-2 Inv-loop μ-loop
 add-waiting-2 c =
-    let a = c .before .before .before .args in
-    let l = c .before .before .loop in
-    record
-    { fits = omega (arith, raise-room each (nth (a .first)) (l .i) (a .count) (l .waiting) (a .waiting .now) (c .before .loop-test .taken) tt (c .before .before .before .pre .1 .1) (l .inv .1)) }
+    let loop-test = c.before.loop-test in
+    let loop = c.before.before.loop in
+    let start = c.before.before.before in
+    let args = start.args in
+    let pre = start.pre in
+    record {
+      fits = omega (
+        arith,
+        raise-room each (nth args.first) loop.i args.count loop.waiting args.waiting.now
+            loop-test.taken tt pre.1.1 loop.inv.1,
+      );
+    }
 
 element-write-waiting : tie.Need-element-write-waiting Inv-loop μ-loop
 element-write-waiting c = search needs
@@ -40,18 +49,19 @@ loop-less c = search needs
 
 loop-again : tie.Need-loop-again Inv-loop μ-loop
 loop-again c =
-    let a = c .before .before .before .args in
-    let l = c .before .before .loop in (
+    let loop = c.before.before.loop in
+    let args = c.before.before.before.args in (
       search needs,
-      raise-hit each (nth (a .first)) (l .i) (l .waiting) (a .waiting .now) tt (search needs) (l .inv .1),
+      raise-hit each (nth args.first) loop.i loop.waiting args.waiting.now tt (search needs)
+          loop.inv.1,
     )
 
 returns : tie.Need-returns Inv-loop μ-loop
 returns c =
-    let a = c .before .before .args in
-    let l = c .before .loop in
-    less-all each (nth (a .first)) (a .count) (l .i) (l .waiting) (a .waiting .now) (l .inv .0)
-    (c .loop-test .left) (l .inv .1)
+    let loop = c.before.loop in
+    let args = c.before.before.args in
+    less-all each (nth args.first) args.count loop.i loop.waiting args.waiting.now loop.inv.0
+    c.loop-test.left loop.inv.1
 
 pub raise-range-spec : {M : Type 1} → statement M
 raise-range-spec =

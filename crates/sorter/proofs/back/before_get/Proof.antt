@@ -20,25 +20,28 @@ byte-requires c κs = search needs
 
 element-copy-out-if1 : tie.Need-element-copy-out-if1
 element-copy-out-if1 c =
-    let a = c .before .before .before .args in
-    let p = c .before .before .before .pre in
+    let output-owners = c.before.output-owners in
+    let start = c.before.before.before in
+    let args = start.args in
+    let pre = start.pre in
     omega (
       arith,
-      c .byte .ensures .0 ∙ ap (λ l. getD l (a .output) 0) (c .before .output-owners .ensures),
-      p .0 .wired .output-owned (a .output) (p .1),
-      few-calls (a .table .now) (p .0),
+      c.byte.ensures.0 ∙ ap (λ l. getD l args.output 0) output-owners.ensures,
+      pre.0.wired.output-owned args.output pre.1,
+      few-calls args.table.now pre.0,
     )
 
 returns : tie.Need-returns
 returns c =
-    let a = c .before .before .before .before .before .args in
-    let p = c .before .before .before .before .before .pre in
-    let o =
-    c .before .before .byte .ensures .0
-    ∙ ap (λ l. getD l (a .output) 0) (c .before .before .before .output-owners .ensures) in
+    let byte = c.before.before.byte in
+    let output-owners = c.before.before.before.output-owners in
+    let start = c.before.before.before.before.before in
+    let args = start.args in
+    let pre = start.pre in
+    let o = byte.ensures.0 ∙ ap (λ l. getD l args.output 0) output-owners.ensures in
     o
-    ∙ get-step (shapeOf (a .table .now)) (p .0 .wired) (a .marks .now) (a .output) (p .1)
-    (unmarked (a .marks .now) _ (subst (λ n. _≡_ {A = ℕ} (getD (a .marks .now) n 0) 0) o (c .if1 .taken)))
+    ∙ get-step (shapeOf args.table.now) pre.0.wired args.marks.now args.output pre.1
+    (unmarked args.marks.now _ (subst (λ n. _≡_ {A = ℕ} (getD args.marks.now n 0) 0) o c.if1.taken))
 
 unit-count-requires : tie.Need-unit-count-requires
 unit-count-requires c κs = search needs
@@ -54,24 +57,39 @@ first-feeding-requires c κs = search needs
 
 add-result-2 : tie.Need-add-result-2
 add-result-2 c =
-    let a = c .before .before .before .before .before .before .before .before .args in
-    let p = c .before .before .before .before .before .before .before .before .pre in
-    record
-    { fits = omega (arith, c .before .before .unit-count .ensures .0, c .before .output-count .ensures .0, c .first-feeding .ensures, lowest-is (keepsGet (shapeOf (a .table .now)) (a .output) (a .marks .now)) (inputs (a .table .now)) .high, few-calls (a .table .now) (p .0)) }
+    let output-count = c.before.output-count in
+    let unit-count = c.before.before.unit-count in
+    let start = c.before.before.before.before.before.before.before.before in
+    let args = start.args in
+    let pre = start.pre in
+    record {
+      fits = omega (
+        arith,
+        unit-count.ensures.0,
+        output-count.ensures.0,
+        c.first-feeding.ensures,
+        lowest-is (keepsGet (shapeOf args.table.now) args.output args.marks.now)
+            (inputs args.table.now) .high,
+        few-calls args.table.now pre.0,
+      );
+    }
 
 returns-2 : tie.Need-returns-2
 returns-2 c =
-    let a = c .before .before .before .before .before .before .before .before .args in
-    let p = c .before .before .before .before .before .before .before .before .pre in
-    let o =
-    c .before .before .before .before .before .byte .ensures .0
-    ∙ ap (λ l. getD l (a .output) 0)
-    (c .before .before .before .before .before .before .output-owners .ensures) in
-    ap₂ _+_ (ap₂ _+_ (c .before .before .unit-count .ensures .0) (c .before .output-count .ensures .0)) refl
-    ∙ get-lowest (shapeOf (a .table .now)) (p .0 .wired) (a .marks .now) (a .output) _ (p .1)
-    (is-marked (a .marks .now) _
-    (λ z. c .before .before .before .if1 .left (subst (λ n. _≡_ {A = ℕ} (getD (a .marks .now) n 0) 0) (sym o) z)))
-    (c .first-feeding .ensures)
+    let output-count = c.before.output-count in
+    let unit-count = c.before.before.unit-count in
+    let if1 = c.before.before.before.if1 in
+    let byte = c.before.before.before.before.before.byte in
+    let at-output-owners = c.before.before.before.before.before.before in
+    let output-owners = at-output-owners.output-owners in
+    let args = at-output-owners.before.before.args in
+    let pre = at-output-owners.before.before.pre in
+    let o = byte.ensures.0 ∙ ap (λ l. getD l args.output 0) output-owners.ensures in
+    ap₂ _+_ (ap₂ _+_ unit-count.ensures.0 output-count.ensures.0) refl
+    ∙ get-lowest (shapeOf args.table.now) pre.0.wired args.marks.now args.output _ pre.1
+    (is-marked args.marks.now _
+    (λ z. if1.left (subst (λ n. _≡_ {A = ℕ} (getD args.marks.now n 0) 0) (sym o) z)))
+    c.first-feeding.ensures
 
 pub before-get-spec : {M : Type 1} → statement M
 before-get-spec =

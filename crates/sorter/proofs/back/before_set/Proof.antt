@@ -21,16 +21,16 @@ source-left-requires c κs = search needs
 
 returns : tie.Need-returns
 returns c =
-    let a = c .before .before .before .before .before .args in
-    let p = c .before .before .before .before .before .pre in
-    c .source-left .ensures
-    ∙ set-source (shapeOf (a .table .now)) (p .0 .wired) (a .marks .now) (a .input) (p .1)
-    (λ k.
-    absurd
-    (c .before .if1 .taken
-    (c .before .before .byte .ensures .0
-    ∙ ap (λ l. getD l (a .input) 0) (c .before .before .before .input-kinds .ensures)
-    ∙ k)))
+    let if1 = c.before.if1 in
+    let byte = c.before.before.byte in
+    let input-kinds = c.before.before.before.input-kinds in
+    let start = c.before.before.before.before.before in
+    let args = start.args in
+    let pre = start.pre in
+    c.source-left.ensures
+    ∙ set-source (shapeOf args.table.now) pre.0.wired args.marks.now args.input pre.1
+    (λ k. absurd
+    (if1.taken (byte.ensures.0 ∙ ap (λ l. getD l args.input 0) input-kinds.ensures ∙ k)))
 
 input-owners-requires : tie.Need-input-owners-requires
 input-owners-requires c κs = search needs
@@ -40,45 +40,49 @@ byte-requires-2 c κs = search needs
 
 element-copy-out-if2 : tie.Need-element-copy-out-if2
 element-copy-out-if2 c =
-    let a = c .before .before .before .before .before .before .args in
-    let p = c .before .before .before .before .before .before .pre in
+    let input-owners = c.before.input-owners in
+    let start = c.before.before.before.before.before.before in
+    let args = start.args in
+    let pre = start.pre in
     omega (
       arith,
-      c .byte2 .ensures .0 ∙ ap (λ l. getD l (a .input) 0) (c .before .input-owners .ensures),
-      p .0 .wired .input-owned (a .input) (p .1),
-      few-calls (a .table .now) (p .0),
+      c.byte2.ensures.0 ∙ ap (λ l. getD l args.input 0) input-owners.ensures,
+      pre.0.wired.input-owned args.input pre.1,
+      few-calls args.table.now pre.0,
     )
 
 returns-2 : tie.Need-returns-2
 returns-2 c =
-    let a = c .before .before .before .before .before .before .before .before .args in
-    let p = c .before .before .before .before .before .before .before .before .pre in
-    let o =
-    c .before .before .byte2 .ensures .0
-    ∙ ap (λ l. getD l (a .input) 0) (c .before .before .before .input-owners .ensures) in
+    let byte2 = c.before.before.byte2 in
+    let input-owners = c.before.before.before.input-owners in
+    let if1 = c.before.before.before.before.if1 in
+    let byte = c.before.before.before.before.before.byte in
+    let at-input-kinds = c.before.before.before.before.before.before in
+    let input-kinds = at-input-kinds.input-kinds in
+    let args = at-input-kinds.before.before.args in
+    let pre = at-input-kinds.before.before.pre in
+    let o = byte2.ensures.0 ∙ ap (λ l. getD l args.input 0) input-owners.ensures in
     o
-    ∙ set-step (shapeOf (a .table .now)) (p .0 .wired) (a .marks .now) (a .input) (p .1)
-    (sym
-    (ap (λ l. getD l (a .input) 0) (c .before .before .before .before .before .before .input-kinds .ensures))
-    ∙ sym (c .before .before .before .before .before .byte .ensures .0)
-    ∙ c .before .before .before .before .if1 .left)
-    (unmarked (a .marks .now) _ (subst (λ n. _≡_ {A = ℕ} (getD (a .marks .now) n 0) 0) o (c .if2 .taken)))
+    ∙ set-step (shapeOf args.table.now) pre.0.wired args.marks.now args.input pre.1
+    (sym (ap (λ l. getD l args.input 0) input-kinds.ensures) ∙ sym byte.ensures.0 ∙ if1.left)
+    (unmarked args.marks.now _ (subst (λ n. _≡_ {A = ℕ} (getD args.marks.now n 0) 0) o c.if2.taken))
 
 source-left-requires-2 : tie.Need-source-left-requires-2
 source-left-requires-2 c κs = search needs
 
 returns-3 : tie.Need-returns-3
 returns-3 c =
-    let a = c .before .before .before .before .before .before .before .before .before .args in
-    let p = c .before .before .before .before .before .before .before .before .before .pre in
-    let o =
-    c .before .before .before .byte2 .ensures .0
-    ∙ ap (λ l. getD l (a .input) 0) (c .before .before .before .before .input-owners .ensures) in
-    c .source-left2 .ensures
-    ∙ set-source (shapeOf (a .table .now)) (p .0 .wired) (a .marks .now) (a .input) (p .1)
-    (λ k.
-    is-marked (a .marks .now) _
-    (λ z. c .before .if2 .left (subst (λ n. _≡_ {A = ℕ} (getD (a .marks .now) n 0) 0) (sym o) z)))
+    let if2 = c.before.if2 in
+    let byte2 = c.before.before.before.byte2 in
+    let input-owners = c.before.before.before.before.input-owners in
+    let start = c.before.before.before.before.before.before.before.before.before in
+    let args = start.args in
+    let pre = start.pre in
+    let o = byte2.ensures.0 ∙ ap (λ l. getD l args.input 0) input-owners.ensures in
+    c.source-left2.ensures
+    ∙ set-source (shapeOf args.table.now) pre.0.wired args.marks.now args.input pre.1
+    (λ k. is-marked args.marks.now _
+    (λ z. if2.left (subst (λ n. _≡_ {A = ℕ} (getD args.marks.now n 0) 0) (sym o) z)))
 
 pub before-set-spec : {M : Type 1} → statement M
 before-set-spec =

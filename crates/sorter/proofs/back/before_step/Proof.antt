@@ -45,27 +45,28 @@ loop-holds c = (search needs, λ k h. absurd (omega arith))
 
 cast-keeps-step : tie.Need-cast-keeps-step Inv-loop μ-loop
 cast-keeps-step c =
-    let p = c .before .before .before .before .before .before .before .pre in
-    record { fits = omega (arith, p .1, p .0 .counted .units-most) }
+    let pre = c.before.before.before.before.before.before.before.pre in
+    record { fits = omega (arith, pre.1, pre.0.counted.units-most) }
 
 keeps-step-requires : tie.Need-keeps-step-requires Inv-loop μ-loop
 keeps-step-requires c κs =
-    let a = c .before .before .before .before .before .before .before .args in
-    let p = c .before .before .before .before .before .before .before .pre in
-    let o =
-    ap length (c .before .before .before .before .before .input-owners .ensures)
-    ∙ long-input-owners (a .table .now) (p .0 .long) in (
-      c .loop-test .taken,
+    let output-count = c.before.before.output-count in
+    let unit-count = c.before.before.before.unit-count in
+    let input-kinds = c.before.before.before.before.input-kinds in
+    let input-owners = c.before.before.before.before.before.input-owners in
+    let start = c.before.before.before.before.before.before.before in
+    let args = start.args in
+    let pre = start.pre in
+    let o = ap length input-owners.ensures ∙ long-input-owners args.table.now pre.0.long in (
+      c.loop-test.taken,
       (
-        ap length (c .before .before .before .before .input-kinds .ensures)
-            ∙ long-kinds (a .table .now) (p .0 .long)
-            ∙ sym o,
+        ap length input-kinds.ensures ∙ long-kinds args.table.now pre.0.long ∙ sym o,
         omega (
           arith,
           o,
-          c .before .before .before .unit-count .ensures .0,
-          c .before .before .output-count .ensures .0,
-          few-calls (a .table .now) (p .0),
+          unit-count.ensures.0,
+          output-count.ensures.0,
+          few-calls args.table.now pre.0,
         ),
       ),
     )
@@ -75,20 +76,22 @@ add-result c = search needs
 
 returns : tie.Need-returns Inv-loop μ-loop
 returns c =
-    let a = c .before .before .before .before .before .before .before .before .before .args in
-    let p = c .before .before .before .before .before .before .before .before .before .pre in
-    step-ends (a .table .now) (p .0) (a .unit) (a .marks .now)
-    (c .before .before .before .before .before .unit-count .result +
-    c .before .before .before .before .output-count .result)
-    (c .before .before .before .before .before .before .before .input-owners .result .now)
-    (c .before .before .before .before .before .before .input-kinds .result .now)
-    (c .before .before .before .loop .x) (p .1)
-    (ap₂ _+_ (c .before .before .before .before .before .unit-count .ensures .0)
-    (c .before .before .before .before .output-count .ensures .0))
-    (c .before .before .before .before .before .before .before .input-owners .ensures)
-    (c .before .before .before .before .before .before .input-kinds .ensures)
-    (found _ _ (c .before .before .before .loop .x) (c .before .before .loop-test .taken)
-    (c .before .before .before .loop .inv .1) (says (c .before .keeps-step .ensures) (c .if1 .taken)))
+    let keeps-step = c.before.keeps-step in
+    let loop-test = c.before.before.loop-test in
+    let loop = c.before.before.before.loop in
+    let output-count = c.before.before.before.before.output-count in
+    let unit-count = c.before.before.before.before.before.unit-count in
+    let at-input-kinds = c.before.before.before.before.before.before in
+    let input-kinds = at-input-kinds.input-kinds in
+    let input-owners = at-input-kinds.before.input-owners in
+    let start = at-input-kinds.before.before.before in
+    let args = start.args in
+    let pre = start.pre in
+    step-ends args.table.now pre.0 args.unit args.marks.now
+    (unit-count.result + output-count.result) input-owners.result.now input-kinds.result.now loop.x
+    pre.1 (ap₂ _+_ unit-count.ensures.0 output-count.ensures.0) input-owners.ensures
+    input-kinds.ensures
+    (found _ _ loop.x loop-test.taken loop.inv.1 (says keeps-step.ensures c.if1.taken))
 
 add-x : tie.Need-add-x Inv-loop μ-loop
 add-x c = search needs
@@ -97,36 +100,41 @@ loop-less : tie.Need-loop-less Inv-loop μ-loop
 loop-less c = search needs
 
 loop-again : tie.Need-loop-again Inv-loop μ-loop
-loop-again c = (
-  search needs,
-  below-more
-      (λ k.
-      T
-      (not
-      (areKeys (c .before .before .before .before .before .before .input-kinds .result .now) 1
-      (c .before .before .before .before .before .before .before .input-owners .result .now)
-      (c .before .before .before .before .before .before .before .before .before .args .unit) k && not
-      (marked (c .before .before .before .before .before .before .before .before .before .args .marks .now)
-      (c .before .before .before .before .before .unit-count .result +
-      c .before .before .before .before .output-count .result + k))))) (c .before .before .before .loop .x)
-      (c .before .before .before .loop .inv .1) (denies (c .before .keeps-step .ensures) (c .if1 .left)),
-)
+loop-again c =
+    let keeps-step = c.before.keeps-step in
+    let loop = c.before.before.before.loop in
+    let output-count = c.before.before.before.before.output-count in
+    let unit-count = c.before.before.before.before.before.unit-count in
+    let at-input-kinds = c.before.before.before.before.before.before in
+    let input-kinds = at-input-kinds.input-kinds in
+    let input-owners = at-input-kinds.before.input-owners in
+    let args = at-input-kinds.before.before.before.args in (
+      search needs,
+      below-more
+          (λ k. T
+          (not
+          (areKeys input-kinds.result.now 1 input-owners.result.now args.unit k && not
+          (marked args.marks.now (unit-count.result + output-count.result + k))))) loop.x loop.inv.1
+          (denies keeps-step.ensures c.if1.left),
+    )
 
 add-result-2 : tie.Need-add-result-2 Inv-loop μ-loop
 add-result-2 c = search needs
 
 returns-2 : tie.Need-returns-2 Inv-loop μ-loop
 returns-2 c =
-    let a = c .before .before .before .before .before .before .before .args in
-    let p = c .before .before .before .before .before .before .before .pre in
-    step-ends (a .table .now) (p .0) (a .unit) (a .marks .now)
-    (c .before .before .before .unit-count .result + c .before .before .output-count .result)
-    (c .before .before .before .before .before .input-owners .result .now)
-    (c .before .before .before .before .input-kinds .result .now) (c .before .loop .x) (p .1)
-    (ap₂ _+_ (c .before .before .before .unit-count .ensures .0) (c .before .before .output-count .ensures .0))
-    (c .before .before .before .before .before .input-owners .ensures)
-    (c .before .before .before .before .input-kinds .ensures)
-    (not-found _ _ (c .before .loop .x) (c .loop-test .left) (c .before .loop .inv .0) (c .before .loop .inv .1))
+    let loop = c.before.loop in
+    let output-count = c.before.before.output-count in
+    let unit-count = c.before.before.before.unit-count in
+    let input-kinds = c.before.before.before.before.input-kinds in
+    let input-owners = c.before.before.before.before.before.input-owners in
+    let start = c.before.before.before.before.before.before.before in
+    let args = start.args in
+    let pre = start.pre in
+    step-ends args.table.now pre.0 args.unit args.marks.now
+    (unit-count.result + output-count.result) input-owners.result.now input-kinds.result.now loop.x
+    pre.1 (ap₂ _+_ unit-count.ensures.0 output-count.ensures.0) input-owners.ensures
+    input-kinds.ensures (not-found _ _ loop.x c.loop-test.left loop.inv.0 loop.inv.1)
 
 pub before-step-spec : {M : Type 1} → statement M
 before-step-spec =

@@ -37,40 +37,41 @@ input-count-requires : tie.Need-input-count-requires Inv-loop μ-loop
 input-count-requires c κs = search needs
 
 loop-holds : tie.Need-loop-holds Inv-loop μ-loop
-loop-holds c = (
-  search needs,
-  subst
-      (Best (shapeOf (c .before .before .before .before .before .before .args .table .now))
-      (c .before .before .before .before .before .before .args .output)
-      (c .before .before .before .before .before .before .args .marks .now) 0)
-      (sym (c .input-count .ensures .0))
-      (best-starts (shapeOf (c .before .before .before .before .before .before .args .table .now))
-      (c .before .before .before .before .before .before .args .output)
-      (c .before .before .before .before .before .before .args .marks .now)),
-)
+loop-holds c =
+    let args = c.before.before.before.before.before.before.args in (
+      search needs,
+      subst (Best (shapeOf args.table.now) args.output args.marks.now 0)
+          (sym c.input-count.ensures.0)
+          (best-starts (shapeOf args.table.now) args.output args.marks.now),
+    )
 
 cast-lower-feeding : tie.Need-cast-lower-feeding Inv-loop μ-loop
 cast-lower-feeding c =
-    let p = c .before .before .before .before .before .before .before .before .pre in
-    record { fits = omega (arith, p .1, p .0 .counted .outputs-most) }
+    let pre = c.before.before.before.before.before.before.before.before.pre in
+    record { fits = omega (arith, pre.1, pre.0.counted.outputs-most) }
 
 lower-feeding-requires : tie.Need-lower-feeding-requires Inv-loop μ-loop
 lower-feeding-requires c κs =
-    let a = c .before .before .before .before .before .before .before .before .args in
-    let p = c .before .before .before .before .before .before .before .before .pre in (
+    let loop = c.before.loop in
+    let output-count = c.before.before.before.output-count in
+    let unit-count = c.before.before.before.before.unit-count in
+    let feed-count = c.before.before.before.before.before.feed-count in
+    let at-feed-pairs = c.before.before.before.before.before.before in
+    let feed-pairs = at-feed-pairs.feed-pairs in
+    let args = at-feed-pairs.before.before.args in
+    let pre = at-feed-pairs.before.before.pre in (
       omega (
         arith,
-        ap length (c .before .before .before .before .before .before .feed-pairs .ensures)
-            ∙ long-pairs (a .table .now) (p .0 .long),
-        c .before .before .before .before .before .feed-count .ensures .0,
-        c .loop-test .taken,
+        ap length feed-pairs.ensures ∙ long-pairs args.table.now pre.0.long,
+        feed-count.ensures.0,
+        c.loop-test.taken,
       ),
       omega (
         arith,
-        c .before .loop .inv .1 .high,
-        c .before .before .before .before .unit-count .ensures .0,
-        c .before .before .before .output-count .ensures .0,
-        few-calls (a .table .now) (p .0),
+        loop.inv.1.high,
+        unit-count.ensures.0,
+        output-count.ensures.0,
+        few-calls args.table.now pre.0,
       ),
     )
 
@@ -82,35 +83,33 @@ loop-less c = search needs
 
 loop-again : tie.Need-loop-again Inv-loop μ-loop
 loop-again c =
-    let a = c .before .before .before .before .before .before .before .before .before .args in
-    let p = c .before .before .before .before .before .before .before .before .before .pre in (
+    let loop-test = c.before.loop-test in
+    let loop = c.before.before.loop in
+    let output-count = c.before.before.before.before.output-count in
+    let unit-count = c.before.before.before.before.before.unit-count in
+    let at-feed-count = c.before.before.before.before.before.before in
+    let feed-count = at-feed-count.feed-count in
+    let feed-pairs = at-feed-count.before.feed-pairs in
+    let start = at-feed-count.before.before.before in
+    let args = start.args in
+    let pre = start.pre in (
       search needs,
-      best-next (a .table .now) (p .0) (a .output) (a .marks .now)
-          (c .before .before .before .before .before .unit-count .result +
-          c .before .before .before .before .output-count .result)
-          (c .before .before .before .before .before .before .before .feed-pairs .result .now)
-          (c .before .before .loop .k) (c .before .before .loop .best) (c .lower-feeding .result)
-          (ap₂ _+_ (c .before .before .before .before .before .unit-count .ensures .0)
-          (c .before .before .before .before .output-count .ensures .0))
-          (c .before .before .before .before .before .before .before .feed-pairs .ensures)
-          (omega (
-            arith,
-            c .before .loop-test .taken,
-            c .before .before .before .before .before .before .feed-count .ensures .0,
-          )) (c .lower-feeding .ensures) (c .before .before .loop .inv .1),
+      best-next args.table.now pre.0 args.output args.marks.now
+          (unit-count.result + output-count.result) feed-pairs.result.now loop.k loop.best
+          c.lower-feeding.result (ap₂ _+_ unit-count.ensures.0 output-count.ensures.0)
+          feed-pairs.ensures (omega (arith, loop-test.taken, feed-count.ensures.0))
+          c.lower-feeding.ensures loop.inv.1,
     )
 
 returns : tie.Need-returns Inv-loop μ-loop
 returns c =
-    let a = c .before .before .before .before .before .before .before .before .args in
-    let p = c .before .before .before .before .before .before .before .before .pre in
-    best-all (a .table .now) (p .0) (a .output) (a .marks .now) (c .before .loop .k) (c .before .loop .best)
-    (omega (
-      arith,
-      c .before .loop .inv .0,
-      c .loop-test .left,
-      c .before .before .before .before .before .feed-count .ensures .0,
-    )) (c .before .loop .inv .1)
+    let loop = c.before.loop in
+    let feed-count = c.before.before.before.before.before.feed-count in
+    let start = c.before.before.before.before.before.before.before.before in
+    let args = start.args in
+    let pre = start.pre in
+    best-all args.table.now pre.0 args.output args.marks.now loop.k loop.best
+    (omega (arith, loop.inv.0, c.loop-test.left, feed-count.ensures.0)) loop.inv.1
 
 pub first-feeding-spec : {M : Type 1} → statement M
 first-feeding-spec =

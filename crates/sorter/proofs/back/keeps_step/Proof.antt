@@ -10,16 +10,16 @@ shared-slice-read-if1 c = search needs
 
 returns : tie.Need-returns
 returns c =
-    let a = c .before .before .args in
-    keeps-other (a .owners .now) (a .kinds .now) (a .unit) (a .x) _ (c .if1 .taken)
+    let args = c.before.before.args in
+    keeps-other args.owners.now args.kinds.now args.unit args.x _ c.if1.taken
 
 shared-slice-read-if2 : tie.Need-shared-slice-read-if2
 shared-slice-read-if2 c = search needs
 
 returns-2 : tie.Need-returns-2
 returns-2 c =
-    let a = c .before .before .before .before .args in
-    keeps-delayed (a .owners .now) (a .kinds .now) (a .unit) (a .x) _ (c .if2 .taken)
+    let args = c.before.before.before.before.args in
+    keeps-delayed args.owners.now args.kinds.now args.unit args.x _ c.if2.taken
 
 add-result : tie.Need-add-result
 add-result c = search needs
@@ -29,9 +29,10 @@ element-copy-out-result c = search needs
 
 returns-3 : tie.Need-returns-3
 returns-3 c =
-    let a = c .before .before .before .before .before .args in
-    keeps-mark (a .owners .now) (a .kinds .now) (a .unit) (a .x) _ _ (c .before .before .before .if1 .left)
-    (c .before .if2 .left) refl
+    let if2 = c.before.if2 in
+    let if1 = c.before.before.before.if1 in
+    let args = c.before.before.before.before.before.args in
+    keeps-mark args.owners.now args.kinds.now args.unit args.x _ _ if1.left if2.left refl
 
 pub keeps-step-spec : {M : Type 1} → statement M
 keeps-step-spec =

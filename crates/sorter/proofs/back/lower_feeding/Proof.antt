@@ -17,8 +17,8 @@ shared-slice-read-if1 c = search needs
 
 returns : tie.Need-returns
 returns c =
-    let a = c .before .before .args in
-    feeding-other (a .pairs .now) (a .k) (a .output) (a .first) (a .marks .now) (a .best) (c .if1 .taken)
+    let args = c.before.before.args in
+    feeding-other args.pairs.now args.k args.output args.first args.marks.now args.best c.if1.taken
 
 mul-input : tie.Need-mul-input
 mul-input c = search needs
@@ -28,13 +28,15 @@ shared-slice-read-input c = search needs
 
 cast-input : tie.Need-cast-input
 cast-input c =
-    record { fits = omega (arith, c .shared-slice-known2 .given (2 * c .before .before .before .args .k)) }
+    let args = c.before.before.before.args in
+    record { fits = omega (arith, c.shared-slice-known2.given (2 * args.k)) }
 
 returns-2 : tie.Need-returns-2
 returns-2 c =
-    let a = c .before .before .before .before .args in
-    feeding-higher (a .pairs .now) (a .k) (a .output) (a .first) (a .marks .now) (a .best)
-    (c .before .before .if1 .left) (c .if2 .taken)
+    let if1 = c.before.before.if1 in
+    let args = c.before.before.before.before.args in
+    feeding-higher args.pairs.now args.k args.output args.first args.marks.now args.best if1.left
+    c.if2.taken
 
 add-if3 : tie.Need-add-if3
 add-if3 c = search needs
@@ -44,15 +46,18 @@ element-copy-out-if3 c = search needs
 
 returns-3 : tie.Need-returns-3
 returns-3 c =
-    let a = c .before .before .before .before .before .before .args in
-    feeding-done (a .pairs .now) (a .k) (a .output) (a .first) (a .marks .now) (a .best)
-    (c .before .before .before .before .if1 .left) (c .if3 .taken)
+    let if1 = c.before.before.before.before.if1 in
+    let args = c.before.before.before.before.before.before.args in
+    feeding-done args.pairs.now args.k args.output args.first args.marks.now args.best if1.left
+    c.if3.taken
 
 returns-4 : tie.Need-returns-4
 returns-4 c =
-    let a = c .before .before .before .before .before .before .args in
-    feeding-lower (a .pairs .now) (a .k) (a .output) (a .first) (a .marks .now) (a .best)
-    (c .before .before .before .before .if1 .left) (c .before .before .if2 .left) (c .if3 .left)
+    let if2 = c.before.before.if2 in
+    let if1 = c.before.before.before.before.if1 in
+    let args = c.before.before.before.before.before.before.args in
+    feeding-lower args.pairs.now args.k args.output args.first args.marks.now args.best if1.left
+    if2.left c.if3.left
 
 pub lower-feeding-spec : {M : Type 1} → statement M
 lower-feeding-spec =

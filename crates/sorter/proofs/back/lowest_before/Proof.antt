@@ -18,11 +18,14 @@ enum-known-kind c = search needs
 
 before-step-requires : tie.Need-before-step-requires
 before-step-requires c κs =
-    let a = c .before .before .before .before .before .args in
-    let p = c .before .before .before .before .before .pre in (
-      p .0,
-      told-step (shapeOf (a .table .now)) (a .call) (p .1) (c .before .kind .given .0 .0)
-          (sym (c .before .before .before .call-of .ensures) ∙ c .before .kind .given .1) .0,
+    let kind = c.before.kind in
+    let call-of = c.before.before.before.call-of in
+    let start = c.before.before.before.before.before in
+    let args = start.args in
+    let pre = start.pre in (
+      pre.0,
+      told-step (shapeOf args.table.now) args.call pre.1 kind.given.0.0
+          (sym call-of.ensures ∙ kind.given.1) .0,
     )
 
 enum-known-kind-2 : tie.Need-enum-known-kind-2
@@ -30,11 +33,14 @@ enum-known-kind-2 c = search needs
 
 before-get-requires : tie.Need-before-get-requires
 before-get-requires c κs =
-    let a = c .before .before .before .before .before .args in
-    let p = c .before .before .before .before .before .pre in (
-      p .0,
-      told-get (shapeOf (a .table .now)) (a .call) (p .1) (c .before .kind2 .given .0 .0)
-          (sym (c .before .before .before .call-of .ensures) ∙ c .before .kind2 .given .1) .0,
+    let kind2 = c.before.kind2 in
+    let call-of = c.before.before.before.call-of in
+    let start = c.before.before.before.before.before in
+    let args = start.args in
+    let pre = start.pre in (
+      pre.0,
+      told-get (shapeOf args.table.now) args.call pre.1 kind2.given.0.0
+          (sym call-of.ensures ∙ kind2.given.1) .0,
     )
 
 enum-known-kind-3 : tie.Need-enum-known-kind-3
@@ -42,11 +48,14 @@ enum-known-kind-3 c = search needs
 
 before-set-requires : tie.Need-before-set-requires
 before-set-requires c κs =
-    let a = c .before .before .before .before .before .args in
-    let p = c .before .before .before .before .before .pre in (
-      p .0,
-      told-set (shapeOf (a .table .now)) (a .call) (p .1) (c .before .kind3 .given .0 .0)
-          (sym (c .before .before .before .call-of .ensures) ∙ c .before .kind3 .given .1) .0,
+    let kind3 = c.before.kind3 in
+    let call-of = c.before.before.before.call-of in
+    let start = c.before.before.before.before.before in
+    let args = start.args in
+    let pre = start.pre in (
+      pre.0,
+      told-set (shapeOf args.table.now) args.call pre.1 kind3.given.0.0
+          (sym call-of.ensures ∙ kind3.given.1) .0,
     )
 
 enum-told : tie.Need-enum-told
@@ -54,38 +63,54 @@ enum-told c = search needs
 
 returns : tie.Need-returns
 returns c =
-    let a = c .before .before .before .before .before .before .args in
-    let p = c .before .before .before .before .before .before .pre in
-    c .before-step .ensures
-    ∙ ap (lowestBefore (callCount (a .table .now)) (precedes (shapeOf (a .table .now))) (marked (a .marks .now)))
-    (told-step (shapeOf (a .table .now)) (a .call) (p .1) (c .before .before .kind .given .0 .0)
-    (sym (c .before .before .before .before .call-of .ensures) ∙ c .before .before .kind .given .1) .1)
+    let kind = c.before.before.kind in
+    let call-of = c.before.before.before.before.call-of in
+    let start = c.before.before.before.before.before.before in
+    let args = start.args in
+    let pre = start.pre in
+    c.before-step.ensures
+    ∙ ap
+    (lowestBefore (callCount args.table.now) (precedes (shapeOf args.table.now))
+    (marked args.marks.now))
+    (told-step (shapeOf args.table.now) args.call pre.1 kind.given.0.0
+    (sym call-of.ensures ∙ kind.given.1) .1)
 
 returns-2 : tie.Need-returns-2
 returns-2 c =
-    let a = c .before .before .before .before .before .before .args in
-    let p = c .before .before .before .before .before .before .pre in
-    c .before-get .ensures
-    ∙ ap (lowestBefore (callCount (a .table .now)) (precedes (shapeOf (a .table .now))) (marked (a .marks .now)))
-    (told-get (shapeOf (a .table .now)) (a .call) (p .1) (c .before .before .kind2 .given .0 .0)
-    (sym (c .before .before .before .before .call-of .ensures) ∙ c .before .before .kind2 .given .1) .1)
+    let kind2 = c.before.before.kind2 in
+    let call-of = c.before.before.before.before.call-of in
+    let start = c.before.before.before.before.before.before in
+    let args = start.args in
+    let pre = start.pre in
+    c.before-get.ensures
+    ∙ ap
+    (lowestBefore (callCount args.table.now) (precedes (shapeOf args.table.now))
+    (marked args.marks.now))
+    (told-get (shapeOf args.table.now) args.call pre.1 kind2.given.0.0
+    (sym call-of.ensures ∙ kind2.given.1) .1)
 
 returns-3 : tie.Need-returns-3
 returns-3 c =
-    let a = c .before .before .before .before .before .before .args in
-    let p = c .before .before .before .before .before .before .pre in
-    c .before-set .ensures
-    ∙ ap (lowestBefore (callCount (a .table .now)) (precedes (shapeOf (a .table .now))) (marked (a .marks .now)))
-    (told-set (shapeOf (a .table .now)) (a .call) (p .1) (c .before .before .kind3 .given .0 .0)
-    (sym (c .before .before .before .before .call-of .ensures) ∙ c .before .before .kind3 .given .1) .1)
+    let kind3 = c.before.before.kind3 in
+    let call-of = c.before.before.before.before.call-of in
+    let start = c.before.before.before.before.before.before in
+    let args = start.args in
+    let pre = start.pre in
+    c.before-set.ensures
+    ∙ ap
+    (lowestBefore (callCount args.table.now) (precedes (shapeOf args.table.now))
+    (marked args.marks.now))
+    (told-set (shapeOf args.table.now) args.call pre.1 kind3.given.0.0
+    (sym call-of.ensures ∙ kind3.given.1) .1)
 
 returns-4 : tie.Need-returns-4
 returns-4 c =
-    let a = c .before .before .before .before .args in
-    let p = c .before .before .before .before .pre in
+    let call-of = c.before.before.call-of in
+    let start = c.before.before.before.before in
+    let args = start.args in
+    let pre = start.pre in
     absurd
-    (told-none (shapeOf (a .table .now)) (a .call) (p .1)
-    (sym (c .before .before .call-of .ensures) ∙ c .enum-told .given .1))
+    (told-none (shapeOf args.table.now) args.call pre.1 (sym call-of.ensures ∙ c.enum-told.given.1))
 
 pub lowest-before-spec : {M : Type 1} → statement M
 lowest-before-spec =

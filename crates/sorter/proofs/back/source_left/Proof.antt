@@ -24,39 +24,48 @@ add-get c = search needs
 
 element-copy-out-if1 : tie.Need-element-copy-out-if1
 element-copy-out-if1 c =
-    let a = c .before .before .before .before .args in
-    let p = c .before .before .before .before .pre in
+    let input-sources = c.before.input-sources in
+    let unit-count = c.before.before.unit-count in
+    let start = c.before.before.before.before in
+    let args = start.args in
+    let pre = start.pre in
     omega (
       arith,
-      c .before .before .unit-count .ensures .0,
-      c .byte .ensures .0 ∙ ap (λ l. getD l (a .input) 0) (c .before .input-sources .ensures),
-      p .0 .wired .sourced (a .input) (p .1),
-      few-calls (a .table .now) (p .0),
+      unit-count.ensures.0,
+      c.byte.ensures.0 ∙ ap (λ l. getD l args.input 0) input-sources.ensures,
+      pre.0.wired.sourced args.input pre.1,
+      few-calls args.table.now pre.0,
     )
 
 returns : tie.Need-returns
 returns c =
-    let a = c .before .before .before .before .before .before .args in
+    let byte = c.before.before.byte in
+    let input-sources = c.before.before.before.input-sources in
+    let unit-count = c.before.before.before.before.unit-count in
+    let args = c.before.before.before.before.before.before.args in
     let e =
-    ap₂ _+_ (c .before .before .before .before .unit-count .ensures .0)
-    (c .before .before .byte .ensures .0
-    ∙ ap (λ l. getD l (a .input) 0) (c .before .before .before .input-sources .ensures)) in
+    ap₂ _+_ unit-count.ensures.0
+    (byte.ensures.0 ∙ ap (λ l. getD l args.input 0) input-sources.ensures) in
     e
-    ∙ source-stays (shapeOf (a .table .now)) (a .marks .now) (a .input)
-    (subst (λ n. _≡_ {A = ℕ} (getD (a .marks .now) n 0) 0) e (c .if1 .taken))
+    ∙ source-stays (shapeOf args.table.now) args.marks.now args.input
+    (subst (λ n. _≡_ {A = ℕ} (getD args.marks.now n 0) 0) e c.if1.taken)
 
 call-count-requires : tie.Need-call-count-requires
 call-count-requires c κs = search needs
 
 returns-2 : tie.Need-returns-2
 returns-2 c =
-    let a = c .before .before .before .before .before .before .before .args in
+    let if1 = c.before.if1 in
+    let byte = c.before.before.before.byte in
+    let input-sources = c.before.before.before.before.input-sources in
+    let unit-count = c.before.before.before.before.before.unit-count in
+    let args = c.before.before.before.before.before.before.before.args in
     let e =
-    ap₂ _+_ (c .before .before .before .before .before .unit-count .ensures .0)
-    (c .before .before .before .byte .ensures .0 ∙ ap (λ l. getD l (a .input) 0) (c .before .before .before .before .input-sources .ensures)) in
-    c .call-count .ensures
-    ∙ source-done (shapeOf (a .table .now)) (a .marks .now) (a .input)
-    (λ z. c .before .if1 .left (subst (λ n. _≡_ {A = ℕ} (getD (a .marks .now) n 0) 0) (sym e) z))
+    ap₂ _+_ unit-count.ensures.0
+    (byte.ensures.0 ∙ ap (λ l. getD l args.input 0) input-sources.ensures) in
+    c.call-count.ensures
+    ∙ source-done (shapeOf args.table.now) args.marks.now args.input
+    (λ z. if1.left (subst (λ n. _≡_ {A = ℕ} (getD args.marks.now n 0) 0) (sym e) z))
 
 pub source-left-spec : {M : Type 1} → statement M
 source-left-spec =

@@ -33,70 +33,64 @@ place-all-requires c κs = search needs
 
 returns : tie.Need-returns
 returns c =
-    let placing = c .before .before .before in
-    let start = placing .before .before .before .before in
-    let t = start .args .table .now in
-    let out = start .args .out .now in
-    let placed = placing .place-all .ensures in
-    clauses t out _ _ _ (ordering-unsound t (length out) (refused t _ (placed .0) (c .if1 .taken)))
-    (refused-answer t _ (placed .0) (c .if1 .taken)) refl
+    let place-all = c.before.before.before.place-all in
+    let args = c.before.before.before.before.before.before.before.args in
+    clauses args.table.now args.out.now _ _ _
+    (ordering-unsound args.table.now (length args.out.now)
+    (refused args.table.now _ place-all.ensures.0 c.if1.taken))
+    (refused-answer args.table.now _ place-all.ensures.0 c.if1.taken) refl
 
 call-count-requires : tie.Need-call-count-requires
 call-count-requires c κs = search needs
 
 returns-2 : tie.Need-returns-2
 returns-2 c =
-    let counted = c .before in
-    let checked = counted .before in
-    let placing = checked .before .before .before in
-    let start = placing .before .before .before .before in
-    let t = start .args .table .now in
-    let out = start .args .out .now in
-    let placed = placing .place-all .ensures in
-    let sound = not-refused t _ (placed .0) (checked .if1 .left) in
-    let count = counted .call-count .ensures in
-    clauses t out _ _ _ (order-short t (length out) _ sound count (c .if2 .taken)) refl refl
+    let call-count = c.before.call-count in
+    let if1 = c.before.before.if1 in
+    let place-all = c.before.before.before.before.before.place-all in
+    let args = c.before.before.before.before.before.before.before.before.before.args in
+    let sound = not-refused args.table.now _ place-all.ensures.0 if1.left in
+    let count = call-count.ensures in
+    clauses args.table.now args.out.now _ _ _
+    (order-short args.table.now (length args.out.now) _ sound count c.if2.taken) refl refl
 
 array-share-prefix-calls : tie.Need-array-share-prefix-calls
 array-share-prefix-calls c =
-    let counted = c .before .before in
-    let checked = counted .before in
-    let placing = checked .before .before .before in
-    let start = placing .before .before .before .before in
-    let t = start .args .table .now in
-    let placed = placing .place-all .ensures in
-    let sound = not-refused t _ (placed .0) (checked .if1 .left) in
-    let count = counted .call-count .ensures in
-    calls-room t _ _ _ sound count refl (placed .1)
+    let call-count = c.before.before.call-count in
+    let if1 = c.before.before.before.if1 in
+    let at-place-all = c.before.before.before.before.before.before in
+    let place-all = at-place-all.place-all in
+    let args = at-place-all.before.before.before.before.args in
+    let sound = not-refused args.table.now _ place-all.ensures.0 if1.left in
+    let count = call-count.ensures in
+    calls-room args.table.now _ _ _ sound count refl place-all.ensures.1
 
 slice-aggregate-write-turned : tie.Need-slice-aggregate-write-turned
 slice-aggregate-write-turned c =
-    let counted = c .before .before .before in
-    let checked = counted .before in
-    let placing = checked .before .before .before in
-    let start = placing .before .before .before .before in
-    let t = start .args .table .now in
-    let placed = placing .place-all .ensures in
-    let sound = not-refused t _ (placed .0) (checked .if1 .left) in
-    let count = counted .call-count .ensures in
-    sym (length-take-le _ _ (calls-room t _ _ _ sound count refl (placed .1)))
+    let call-count = c.before.before.before.call-count in
+    let if1 = c.before.before.before.before.if1 in
+    let at-place-all = c.before.before.before.before.before.before.before in
+    let place-all = at-place-all.place-all in
+    let args = at-place-all.before.before.before.before.args in
+    let sound = not-refused args.table.now _ place-all.ensures.0 if1.left in
+    let count = call-count.ensures in
+    sym (length-take-le _ _ (calls-room args.table.now _ _ _ sound count refl place-all.ensures.1))
 
 write-turned-requires : tie.Need-write-turned-requires
 write-turned-requires c κs =
-    let roomy = c .before .before .before in
-    let counted = roomy .before in
-    let checked = counted .before in
-    let placing = checked .before .before .before in
-    let start = placing .before .before .before .before in
-    let t = start .args .table .now in
-    let placed = placing .place-all .ensures in
-    let sound = not-refused t _ (placed .0) (checked .if1 .left) in
-    let count = counted .call-count .ensures in
-    let calls = placing .place-all .last .1 .0 in
-    let fits = calls-room t _ _ _ sound count refl (placed .1) in
-    let long = length-take-le (counted .call-count .result) calls fits in (
-      omega (arith, long, count, passed-sound t sound .counted .units-some),
-      omega (arith, long, roomy .if2 .left),
+    let if2 = c.before.before.before.if2 in
+    let call-count = c.before.before.before.before.call-count in
+    let if1 = c.before.before.before.before.before.if1 in
+    let at-place-all = c.before.before.before.before.before.before.before.before in
+    let place-all = at-place-all.place-all in
+    let args = at-place-all.before.before.before.before.args in
+    let sound = not-refused args.table.now _ place-all.ensures.0 if1.left in
+    let count = call-count.ensures in
+    let calls = place-all.last.1.0 in
+    let fits = calls-room args.table.now _ _ _ sound count refl place-all.ensures.1 in
+    let long = length-take-le call-count.result calls fits in (
+      omega (arith, long, count, passed-sound args.table.now sound .counted .units-some),
+      omega (arith, long, if2.left),
     )
 
 same-length : tie.Need-same-length
@@ -104,74 +98,70 @@ same-length c = search needs
 
 returns-3 : tie.Need-returns-3
 returns-3 c =
-    let written = c .before .before in
-    let compared = written .before .before .before in
-    let roomy = compared .before in
-    let counted = roomy .before in
-    let checked = counted .before in
-    let placing = checked .before .before .before in
-    let start = placing .before .before .before .before in
-    let t = start .args .table .now in
-    let out = start .args .out .now in
-    let placed = placing .place-all .ensures in
-    let sound = not-refused t _ (placed .0) (checked .if1 .left) in
-    let count = counted .call-count .ensures in
-    let all = sym (place-is t _ (placed .0) sound) ∙ compared .if3 .taken in
-    clauses t out _ _ _ (order-all t (length out) _ sound count (roomy .if2 .left) all) refl
-    (written .write-turned .ensures
-    ∙ ap (λ l. fronted l out) (turned-none _ ∙ calls-are t _ _ _ sound (placed .1) (sym all)))
+    let write-turned = c.before.before.write-turned in
+    let if3 = c.before.before.before.before.before.if3 in
+    let at-if2 = c.before.before.before.before.before.before in
+    let if2 = at-if2.if2 in
+    let call-count = at-if2.before.call-count in
+    let if1 = at-if2.before.before.if1 in
+    let place-all = at-if2.before.before.before.before.before.place-all in
+    let args = at-if2.before.before.before.before.before.before.before.before.before.args in
+    let sound = not-refused args.table.now _ place-all.ensures.0 if1.left in
+    let count = call-count.ensures in
+    let all = sym (place-is args.table.now _ place-all.ensures.0 sound) ∙ if3.taken in
+    clauses args.table.now args.out.now _ _ _
+    (order-all args.table.now (length args.out.now) _ sound count if2.left all) refl
+    (write-turned.ensures
+    ∙ ap (λ l. fronted l args.out.now)
+    (turned-none _ ∙ calls-are args.table.now _ _ _ sound place-all.ensures.1 (sym all)))
 
 slice-aggregate-show-cycle : tie.Need-slice-aggregate-show-cycle
 slice-aggregate-show-cycle c =
-    let counted = c .before .before .before in
-    let checked = counted .before in
-    let placing = checked .before .before .before in
-    let start = placing .before .before .before .before in
-    let t = start .args .table .now in
-    let placed = placing .place-all .ensures in
-    let sound = not-refused t _ (placed .0) (checked .if1 .left) in
-    sym (calls-long t _ _ sound refl (placed .1))
+    let if1 = c.before.before.before.before.if1 in
+    let at-place-all = c.before.before.before.before.before.before.before in
+    let place-all = at-place-all.place-all in
+    let args = at-place-all.before.before.before.before.args in
+    let sound = not-refused args.table.now _ place-all.ensures.0 if1.left in
+    sym (calls-long args.table.now _ _ sound refl place-all.ensures.1)
 
 show-cycle-requires : tie.Need-show-cycle-requires
 show-cycle-requires c κs =
-    let compared = c .before .before in
-    let roomy = compared .before in
-    let counted = roomy .before in
-    let checked = counted .before in
-    let placing = checked .before .before .before in
-    let start = placing .before .before .before .before in
-    let t = start .args .table .now in
-    let placed = placing .place-all .ensures in
-    let sound = not-refused t _ (placed .0) (checked .if1 .left) in
-    let count = counted .call-count .ensures in
-    let many = place-is t _ (placed .0) sound in
-    let early = placed-early t _ _ many count (compared .if3 .left) in
-    let long = calls-long t _ _ sound refl (placed .1) in
-    let calls = calls-are t _ _ _ sound (placed .1) many in
-    (passed-sound t sound, (count, (long, (early, (calls, roomy .if2 .left)))))
+    let if3 = c.before.before.if3 in
+    let if2 = c.before.before.before.if2 in
+    let call-count = c.before.before.before.before.call-count in
+    let if1 = c.before.before.before.before.before.if1 in
+    let at-place-all = c.before.before.before.before.before.before.before.before in
+    let place-all = at-place-all.place-all in
+    let args = at-place-all.before.before.before.before.args in
+    let sound = not-refused args.table.now _ place-all.ensures.0 if1.left in
+    let count = call-count.ensures in
+    let many = place-is args.table.now _ place-all.ensures.0 sound in
+    let early = placed-early args.table.now _ _ many count if3.left in
+    let long = calls-long args.table.now _ _ sound refl place-all.ensures.1 in
+    let calls = calls-are args.table.now _ _ _ sound place-all.ensures.1 many in
+    (passed-sound args.table.now sound, (count, (long, (early, (calls, if2.left)))))
 
 same-length-2 : tie.Need-same-length-2
 same-length-2 c = search needs
 
 returns-4 : tie.Need-returns-4
 returns-4 c =
-    let shown = c .before .before .before in
-    let compared = shown .before .before .before in
-    let roomy = compared .before in
-    let counted = roomy .before in
-    let checked = counted .before in
-    let placing = checked .before .before .before in
-    let start = placing .before .before .before .before in
-    let t = start .args .table .now in
-    let out = start .args .out .now in
-    let placed = placing .place-all .ensures in
-    let sound = not-refused t _ (placed .0) (checked .if1 .left) in
-    let count = counted .call-count .ensures in
-    let many = place-is t _ (placed .0) sound in
-    let cycle = shown .show-cycle .ensures in
-    clauses t out _ _ _
-    (order-cycle t (length out) _ sound count (roomy .if2 .left) _ many (compared .if3 .left) _ (cycle .0))
-    refl (cycle .1)
+    let show-cycle = c.before.before.before.show-cycle in
+    let at-if3 = c.before.before.before.before.before.before in
+    let if3 = at-if3.if3 in
+    let if2 = at-if3.before.if2 in
+    let call-count = at-if3.before.before.call-count in
+    let if1 = at-if3.before.before.before.if1 in
+    let at-place-all = at-if3.before.before.before.before.before.before in
+    let place-all = at-place-all.place-all in
+    let args = at-place-all.before.before.before.before.args in
+    let sound = not-refused args.table.now _ place-all.ensures.0 if1.left in
+    let count = call-count.ensures in
+    let many = place-is args.table.now _ place-all.ensures.0 sound in
+    let cycle = show-cycle.ensures in
+    clauses args.table.now args.out.now _ _ _
+    (order-cycle args.table.now (length args.out.now) _ sound count if2.left _ many if3.left _
+    cycle.0) refl cycle.1
 
 pub order-spec : {M : Type 1} → statement M
 order-spec =

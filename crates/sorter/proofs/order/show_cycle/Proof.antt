@@ -12,43 +12,45 @@ use Rattle.search.specs.Front.{fronted}
 use Rattle.table.specs.Checked.{few-calls}
 use Rattle.orders.specs.Walk.{among}
 use Rattle.placing.proofs.Stage.{zeros}
-use Rattle.sorter.proofs.Showing.{placed-few, placed-long, path-rest, path-few, met-shown, met-call}
+use Rattle.sorter.proofs.Showing.{placed-few, placed-long, path-rest}
+use Rattle.sorter.proofs.Showing.{path-few, met-shown, met-call}
 
 slice-reshare-prefix-mark : tie.Need-slice-reshare-prefix-mark
 slice-reshare-prefix-mark c =
-    let start = c .before .before .before in
-    let few = few-calls (start .args .table .now) (start .pre .0) in
-    omega (arith, start .pre .1 .0, start .pre .1 .1 .0, start .pre .1 .1 .1 .0, few)
+    let start = c.before.before.before in
+    let args = start.args in
+    let pre = start.pre in
+    let few = few-calls args.table.now pre.0 in omega (arith, pre.1.0, pre.1.1.0, pre.1.1.1.0, few)
 
 slice-aggregate-mark : tie.Need-slice-aggregate-mark
 slice-aggregate-mark c =
-    let start = c .before .before .before .before in
-    let few = few-calls (start .args .table .now) (start .pre .0) in
-    let fits = start .pre .1 .1 .1 .0 in
-    sym
-    (length-take-le (start .args .placed) (start .args .calls .now)
-    (omega (arith, start .pre .1 .0, start .pre .1 .1 .0, fits, few)))
+    let start = c.before.before.before.before in
+    let args = start.args in
+    let pre = start.pre in
+    let few = few-calls args.table.now pre.0 in
+    let fits = pre.1.1.1.0 in
+    sym (length-take-le args.placed args.calls.now (omega (arith, pre.1.0, pre.1.1.0, fits, few)))
 
 mark-requires : tie.Need-mark-requires
 mark-requires c κs =
-    let start = c .before .before .before .before .before in
-    let table = start .args .table .now in
-    let placed = start .pre .1 .1 .1 .1 .0 in
-    (refl, (zeros 224, placed-few table _ placed (few-calls table (start .pre .0))))
+    let start = c.before.before.before.before.before in
+    let args = start.args in
+    let pre = start.pre in
+    (refl, (zeros 224, placed-few args.table.now _ pre.1.1.1.1.0 (few-calls args.table.now pre.0)))
 
 walk-back-requires : tie.Need-walk-back-requires
 walk-back-requires c κs =
-    let marked = c .before .before in
-    let start = marked .before .before .before .before .before .before in
-    let table = start .args .table .now in
-    let count = start .pre .1 .0 in
-    let long = start .pre .1 .1 .0 in
-    let placed = start .pre .1 .1 .1 .1 .0 in
-    let few = few-calls table (start .pre .0) in
-    let some = start .pre .1 .1 .1 .0 in
-    let early = placed-long table _ (start .args .placed) placed (omega (arith, some, count, long, few)) in
-    let marks = marked .mark .ensures ∙ ap among placed in
-    (start .pre .0, (count, (omega (arith, early, some), (marks, long))))
+    let mark = c.before.before.mark in
+    let start = c.before.before.before.before.before.before.before.before in
+    let args = start.args in
+    let pre = start.pre in
+    let few = few-calls args.table.now pre.0 in
+    let some = pre.1.1.1.0 in
+    let early =
+    placed-long args.table.now _ args.placed pre.1.1.1.1.0
+    (omega (arith, some, pre.1.0, pre.1.1.0, few)) in
+    let marks = mark.ensures ∙ ap among pre.1.1.1.1.0 in
+    (pre.0, (pre.1.0, (omega (arith, early, some), (marks, pre.1.1.0))))
 
 sub-write-met : tie.Need-sub-write-met
 sub-write-met c = search needs
@@ -61,31 +63,46 @@ part-write-met-end c = search needs
 
 cast-write-met : tie.Need-cast-write-met
 cast-write-met c =
-    let walk = c .before .before .before .before in
-    let start = walk .before .before .before .before .before .before .before .before .before in
-    let table = start .args .table .now in
-    let walked = walk .walk-back .ensures in
-    record { fits = omega (arith, met-call table _ _ _ walked, few-calls table (start .pre .0)) }
+    let at-walk-back = c.before.before.before.before in
+    let walk-back = at-walk-back.walk-back in
+    let start = at-walk-back.before.before.before.before.before.before.before.before.before in
+    let args = start.args in
+    let pre = start.pre in
+    record {
+      fits = omega (
+        arith,
+        met-call args.table.now _ _ _ walk-back.ensures,
+        few-calls args.table.now pre.0,
+      );
+    }
 
 cast-write-met-2 : tie.Need-cast-write-met-2
 cast-write-met-2 c =
-    let start = c .before .before .before .before .before .before .before .before .before .before .before .before .before in
-    record { fits = omega (arith, start .pre .1 .0, few-calls (start .args .table .now) (start .pre .0)) }
+    let start = c .before .before .before .before .before .before .before .before .before .before
+    .before .before .before in
+    let args = start.args in
+    let pre = start.pre in
+    record { fits = omega (arith, pre.1.0, few-calls args.table.now pre.0) }
 
 write-met-requires : tie.Need-write-met-requires
 write-met-requires c κs =
-    let walk = c .before .before .before .before .before in
-    let start = walk .before .before .before .before .before .before .before .before .before in
-    let table = start .args .table .now in
-    let count = start .pre .1 .0 in
-    let walked = walk .walk-back .ensures in
-    let call = walk .walk-back .result .call in
-    let rest = path-rest table _ _ _ walked in (
-      subst (λ l. T (among l call)) (sym rest) (walked .again),
+    let at-walk-back = c.before.before.before.before.before in
+    let walk-back = at-walk-back.walk-back in
+    let start = at-walk-back.before.before.before.before.before.before.before.before.before in
+    let args = start.args in
+    let pre = start.pre in
+    let rest = path-rest args.table.now _ _ _ walk-back.ensures in (
+      subst (λ l. T (among l walk-back.result.call)) (sym rest) walk-back.ensures.again,
       (
-        subst (λ l. (i : ℕ) → i < length l → getD l i 0 < start .args .count) (sym rest)
-            (λ i h. omega (arith, walked .calls i h, count)),
-        omega (arith, ap length rest, path-few table _ _ _ walked, count, start .pre .1 .1 .1 .1 .1),
+        subst (λ l. (i : ℕ) → i < length l → getD l i 0 < args.count) (sym rest)
+            (λ i h. omega (arith, walk-back.ensures.calls i h, pre.1.0)),
+        omega (
+          arith,
+          ap length rest,
+          path-few args.table.now _ _ _ walk-back.ensures,
+          pre.1.0,
+          pre.1.1.1.1.1,
+        ),
       ),
     )
 
@@ -97,13 +114,16 @@ same-length-2 c = search needs
 
 returns : tie.Need-returns
 returns c =
-    let write = c .before .before in
-    let walk = write .before .before .before .before .before .before in
-    let start = walk .before .before .before .before .before .before .before .before .before in
-    let walked = walk .walk-back .ensures in
-    let written = write .write-met .ensures in
-    let shown = met-shown (start .args .table .now) _ _ _ walked _ (start .pre .1 .0) in
-    (written .0 ∙ ap length shown, written .1 ∙ ap (λ l. fronted l (start .args .out .now)) shown)
+    let write-met = c.before.before.write-met in
+    let at-walk-back = c.before.before.before.before.before.before.before.before in
+    let walk-back = at-walk-back.walk-back in
+    let start = at-walk-back.before.before.before.before.before.before.before.before.before in
+    let args = start.args in
+    let pre = start.pre in
+    let shown = met-shown args.table.now _ _ _ walk-back.ensures _ pre.1.0 in (
+      write-met.ensures.0 ∙ ap length shown,
+      write-met.ensures.1 ∙ ap (λ l. fronted l args.out.now) shown,
+    )
 
 pub show-cycle-spec : {M : Type 1} → statement M
 show-cycle-spec =

@@ -12,16 +12,19 @@ place-of-requires c κs = search needs
 
 add-length : tie.Need-add-length
 add-length c =
-    let a = c .before .before .before .args in
-    let p = c .before .before .before .pre in
-    let m = met-fits (a .seen .now) (a .call) (a .count) (p .0) (p .1 .0) _ (c .place-of .ensures) in
+    let start = c.before.before.before in
+    let args = start.args in
+    let pre = start.pre in
+    let m = met-fits args.seen.now args.call args.count pre.0 pre.1.0 _ c.place-of.ensures in
     search needs
 
 slice-aggregate-cycle : tie.Need-slice-aggregate-cycle
 slice-aggregate-cycle c =
-    let a = c .before .before .before .before .args in
-    let p = c .before .before .before .before .pre in
-    sym (met-long (a .seen .now) (a .call) (a .count) (p .0) (p .1 .0) _ (c .before .place-of .ensures))
+    let place-of = c.before.place-of in
+    let start = c.before.before.before.before in
+    let args = start.args in
+    let pre = start.pre in
+    sym (met-long args.seen.now args.call args.count pre.0 pre.1.0 _ place-of.ensures)
 
 lowest-of-requires : tie.Need-lowest-of-requires
 lowest-of-requires c κs = search needs
@@ -31,18 +34,19 @@ place-of-requires-2 c κs = search needs
 
 write-turned-requires : tie.Need-write-turned-requires
 write-turned-requires c κs =
-    let a = c .before .before .before .before .before .before .before .args in
-    let p = c .before .before .before .before .before .before .before .pre in (
-      first-in (a .seen .now) (a .call) (a .count) (p .0) (p .1 .0) _
-          (c .before .before .before .before .place-of .ensures) _ _ (c .before .before .lowest-of .ensures)
-          (c .before .place-of2 .ensures),
+    let place-of2 = c.before.place-of2 in
+    let lowest-of = c.before.before.lowest-of in
+    let place-of = c.before.before.before.before.place-of in
+    let start = c.before.before.before.before.before.before.before in
+    let args = start.args in
+    let pre = start.pre in (
+      first-in args.seen.now args.call args.count pre.0 pre.1.0 _ place-of.ensures _ _
+          lowest-of.ensures place-of2.ensures,
       omega (
         arith,
-        met-long (a .seen .now) (a .call) (a .count) (p .0) (p .1 .0) _
-            (c .before .before .before .before .place-of .ensures),
-        met-fits (a .seen .now) (a .call) (a .count) (p .0) (p .1 .0) _
-            (c .before .before .before .before .place-of .ensures),
-        p .1 .1,
+        met-long args.seen.now args.call args.count pre.0 pre.1.0 _ place-of.ensures,
+        met-fits args.seen.now args.call args.count pre.0 pre.1.0 _ place-of.ensures,
+        pre.1.1,
       ),
     )
 
@@ -51,18 +55,20 @@ same-length c = search needs
 
 returns : tie.Need-returns
 returns c =
-    let a = c .before .before .before .before .before .before .before .before .before .before .args in
-    let p = c .before .before .before .before .before .before .before .before .before .before .pre in (
-      turned-long (a .seen .now) (a .call) (a .count) (p .0) (p .1 .0) _
-          (c .before .before .before .before .before .before .before .place-of .ensures) _ _
-          (c .before .before .before .before .before .lowest-of .ensures)
-          (c .before .before .before .before .place-of2 .ensures),
-      c .before .before .write-turned .ensures
-          ∙ ap (λ l. fronted l (a .out .now))
-          (turned-is (a .seen .now) (a .call) (a .count) (p .0) (p .1 .0) _
-          (c .before .before .before .before .before .before .before .place-of .ensures) _ _
-          (c .before .before .before .before .before .lowest-of .ensures)
-          (c .before .before .before .before .place-of2 .ensures)),
+    let write-turned = c.before.before.write-turned in
+    let place-of2 = c.before.before.before.before.place-of2 in
+    let lowest-of = c.before.before.before.before.before.lowest-of in
+    let at-place-of = c.before.before.before.before.before.before.before in
+    let place-of = at-place-of.place-of in
+    let start = at-place-of.before.before.before in
+    let args = start.args in
+    let pre = start.pre in (
+      turned-long args.seen.now args.call args.count pre.0 pre.1.0 _ place-of.ensures _ _
+          lowest-of.ensures place-of2.ensures,
+      write-turned.ensures
+          ∙ ap (λ l. fronted l args.out.now)
+          (turned-is args.seen.now args.call args.count pre.0 pre.1.0 _ place-of.ensures _ _
+          lowest-of.ensures place-of2.ensures),
     )
 
 pub write-met-spec : {M : Type 1} → statement M

@@ -14,7 +14,7 @@ abbrev μ-loop : tie.MeasureT-loop
 μ-loop bytes count low₀ i₀ low i = length bytes - i
 
 loop-holds : tie.Need-loop-holds Inv-loop μ-loop
-loop-holds c = (search needs, low-starts (c .args .bytes .now) (c .args .count))
+loop-holds c = (search needs, low-starts c.args.bytes.now c.args.count)
 
 shared-slice-read-if1 : tie.Need-shared-slice-read-if1 Inv-loop μ-loop
 shared-slice-read-if1 c = search needs
@@ -30,24 +30,23 @@ loop-less c = search needs
 
 loop-again : tie.Need-loop-again Inv-loop μ-loop
 loop-again c =
-    let b = c .before .before .before .before .args .bytes .now in
-    let n = c .before .before .before .before .args .count in (
+    let loop-test = c.before.before.loop-test in
+    let loop = c.before.before.before.loop in
+    let args = c.before.before.before.before.args in (
       search needs,
       ⊎-elim
-          (λ w.
-          rw (w .2)
-          (low-lower b n (c .before .before .before .loop .i) (c .before .before .before .loop .low)
-          (c .before .before .loop-test .taken) (w .0 .taken) (c .before .before .before .loop .inv .1)))
-          (λ w.
-          rw (w .1)
-          (low-stays b n (c .before .before .before .loop .i) (c .before .before .before .loop .low) (w .0 .left)
-          (c .before .before .before .loop .inv .1))) (c .if1 .came),
+          (λ w. rw (w .2)
+          (low-lower args.bytes.now args.count loop.i loop.low loop-test.taken (w .0 .taken)
+          loop.inv.1))
+          (λ w. rw (w .1)
+          (low-stays args.bytes.now args.count loop.i loop.low (w .0 .left) loop.inv.1)) c.if1.came,
     )
 
 returns : tie.Need-returns Inv-loop μ-loop
 returns c =
-    low-ends (c .before .before .args .bytes .now) (c .before .before .args .count) (c .before .loop .i)
-    (c .before .loop .low) (c .loop-test .left) (c .before .loop .inv .1)
+    let loop = c.before.loop in
+    let args = c.before.before.args in
+    low-ends args.bytes.now args.count loop.i loop.low c.loop-test.left loop.inv.1
 
 pub lowest-of-spec : {M : Type 1} → statement M
 lowest-of-spec =

@@ -26,11 +26,11 @@ shared-slice-read-if1 c = search needs
 
 returns : tie.Need-returns Inv-loop μ-loop
 returns c =
-    found
-    (isKey (c .before .before .before .before .args .bytes .now) (c .before .before .before .before .args .byte))
-    (length (c .before .before .before .before .args .bytes .now)) (c .before .before .before .loop .i)
-    (c .before .before .loop-test .taken) (c .before .before .before .loop .inv .1)
-    (eq-true _ _ (c .if1 .taken))
+    let loop-test = c.before.before.loop-test in
+    let loop = c.before.before.before.loop in
+    let args = c.before.before.before.before.args in
+    found (isKey args.bytes.now args.byte) (length args.bytes.now) loop.i loop-test.taken loop.inv.1
+    (eq-true _ _ c.if1.taken)
 
 add-i : tie.Need-add-i Inv-loop μ-loop
 add-i c = search needs
@@ -39,22 +39,20 @@ loop-less : tie.Need-loop-less Inv-loop μ-loop
 loop-less c = search needs
 
 loop-again : tie.Need-loop-again Inv-loop μ-loop
-loop-again c = (
-  search needs,
-  below-more
-      (λ k.
-      T
-      (not
-      (isKey (c .before .before .before .before .args .bytes .now)
-      (c .before .before .before .before .args .byte) k))) (c .before .before .before .loop .i)
-      (c .before .before .before .loop .inv .1) (eq-false _ _ (c .if1 .left)),
-)
+loop-again c =
+    let loop = c.before.before.before.loop in
+    let args = c.before.before.before.before.args in (
+      search needs,
+      below-more (λ k. T (not (isKey args.bytes.now args.byte k))) loop.i loop.inv.1
+          (eq-false _ _ c.if1.left),
+    )
 
 returns-2 : tie.Need-returns-2 Inv-loop μ-loop
 returns-2 c =
-    not-found (isKey (c .before .before .args .bytes .now) (c .before .before .args .byte))
-    (length (c .before .before .args .bytes .now)) (c .before .loop .i) (c .loop-test .left)
-    (c .before .loop .inv .0) (c .before .loop .inv .1)
+    let loop = c.before.loop in
+    let args = c.before.before.args in
+    not-found (isKey args.bytes.now args.byte) (length args.bytes.now) loop.i c.loop-test.left
+    loop.inv.0 loop.inv.1
 
 pub place-of-spec : {M : Type 1} → statement M
 place-of-spec =

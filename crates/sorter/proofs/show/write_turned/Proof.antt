@@ -15,34 +15,38 @@ abbrev μ-loop : tie.MeasureT-loop
 μ-loop bytes first out₀ from₀ to₀ out from to = length bytes - to
 
 loop-holds : tie.Need-loop-holds Inv-loop μ-loop
-loop-holds c = turning-starts (c .args .bytes .now) (c .args .first) (c .args .out .now) (c .pre .0)
+loop-holds c = turning-starts c.args.bytes.now c.args.first c.args.out.now c.pre.0
 
 shared-slice-read-out : tie.Need-shared-slice-read-out Inv-loop μ-loop
 shared-slice-read-out c =
-    turning-on (c .before .before .before .before .args .bytes .now)
-    (c .before .before .before .before .args .first) (c .before .before .before .before .args .out .now)
-    (c .before .before .before .loop .out) (c .before .before .before .loop .from) (c .before .if1 .from)
-    (c .before .before .before .loop .to) (c .before .before .before .before .pre .0)
-    (c .before .before .before .before .pre .1) (c .before .before .loop-test .taken)
-    (⊎-elim (λ w. inl (w .0 .taken, w .1)) (λ w. inr (w .0 .left, w .1)) (c .before .if1 .came))
-    (c .before .before .before .loop .inv) .0
+    let if1 = c.before.if1 in
+    let loop-test = c.before.before.loop-test in
+    let loop = c.before.before.before.loop in
+    let start = c.before.before.before.before in
+    let args = start.args in
+    let pre = start.pre in
+    turning-on args.bytes.now args.first args.out.now loop.out loop.from if1.from loop.to pre.0
+    pre.1 loop-test.taken
+    (⊎-elim (λ w. inl (w .0 .taken, w .1)) (λ w. inr (w .0 .left, w .1)) if1.came) loop.inv .0
 
 slice-write-out : tie.Need-slice-write-out Inv-loop μ-loop
 slice-write-out c =
-    omega (arith, c .before .before .before .loop .inv .front .long, c .before .before .before .before .pre .1)
+    let loop = c.before.before.before.loop in
+    let pre = c.before.before.before.before.pre in
+    omega (arith, loop.inv.front.long, pre.1)
 
 add-from : tie.Need-add-from Inv-loop μ-loop
 add-from c =
+    let if1 = c.before.before.if1 in
+    let loop-test = c.before.before.before.loop-test in
+    let loop = c.before.before.before.before.loop in
+    let start = c.before.before.before.before.before in
+    let args = start.args in
+    let pre = start.pre in
     let z =
-    turning-on (c .before .before .before .before .before .args .bytes .now)
-    (c .before .before .before .before .before .args .first)
-    (c .before .before .before .before .before .args .out .now)
-    (c .before .before .before .before .loop .out) (c .before .before .before .before .loop .from)
-    (c .before .before .if1 .from) (c .before .before .before .before .loop .to)
-    (c .before .before .before .before .before .pre .0) (c .before .before .before .before .before .pre .1)
-    (c .before .before .before .loop-test .taken)
-    (⊎-elim (λ w. inl (w .0 .taken, w .1)) (λ w. inr (w .0 .left, w .1)) (c .before .before .if1 .came))
-    (c .before .before .before .before .loop .inv) .0 in
+    turning-on args.bytes.now args.first args.out.now loop.out loop.from if1.from loop.to pre.0
+    pre.1 loop-test.taken
+    (⊎-elim (λ w. inl (w .0 .taken, w .1)) (λ w. inr (w .0 .left, w .1)) if1.came) loop.inv .0 in
     search needs
 
 add-to : tie.Need-add-to Inv-loop μ-loop
@@ -53,23 +57,26 @@ loop-less c = search needs
 
 loop-again : tie.Need-loop-again Inv-loop μ-loop
 loop-again c =
-    turning-on (c .before .before .before .before .before .args .bytes .now)
-    (c .before .before .before .before .before .args .first)
-    (c .before .before .before .before .before .args .out .now) (c .before .before .before .before .loop .out)
-    (c .before .before .before .before .loop .from) (c .before .before .if1 .from)
-    (c .before .before .before .before .loop .to) (c .before .before .before .before .before .pre .0)
-    (c .before .before .before .before .before .pre .1) (c .before .before .before .loop-test .taken)
-    (⊎-elim (λ w. inl (w .0 .taken, w .1)) (λ w. inr (w .0 .left, w .1)) (c .before .before .if1 .came))
-    (c .before .before .before .before .loop .inv) .1
+    let if1 = c.before.before.if1 in
+    let loop-test = c.before.before.before.loop-test in
+    let loop = c.before.before.before.before.loop in
+    let start = c.before.before.before.before.before in
+    let args = start.args in
+    let pre = start.pre in
+    turning-on args.bytes.now args.first args.out.now loop.out loop.from if1.from loop.to pre.0
+    pre.1 loop-test.taken
+    (⊎-elim (λ w. inl (w .0 .taken, w .1)) (λ w. inr (w .0 .left, w .1)) if1.came) loop.inv .1
 
 same-length : tie.Need-same-length Inv-loop μ-loop
-same-length c = c .before .loop .inv .front .long
+same-length c = c.before.loop.inv.front.long
 
 returns : tie.Need-returns Inv-loop μ-loop
 returns c =
-    turning-ends (c .before .before .args .bytes .now) (c .before .before .args .first)
-    (c .before .before .args .out .now) (c .before .loop .out) (c .before .loop .from) (c .before .loop .to)
-    (c .before .before .pre .0) (c .loop-test .left) (c .before .loop .inv)
+    let loop = c.before.loop in
+    let args = c.before.before.args in
+    let pre = c.before.before.pre in
+    turning-ends args.bytes.now args.first args.out.now loop.out loop.from loop.to pre.0
+    c.loop-test.left loop.inv
 
 pub write-turned-spec : {M : Type 1} → statement M
 write-turned-spec =

@@ -26,11 +26,11 @@ element-copy-out-if1 c = search needs
 
 returns : tie.Need-returns Inv-loop μ-loop
 returns c =
-    found (λ k. not (marked (c .before .before .before .before .args .marks .now) k))
-    (c .before .before .before .before .args .count) (c .before .before .before .loop .c)
-    (c .before .before .loop-test .taken) (c .before .before .before .loop .inv .1)
-    (unmarked (c .before .before .before .before .args .marks .now) (c .before .before .before .loop .c)
-    (c .if1 .taken))
+    let loop-test = c.before.before.loop-test in
+    let loop = c.before.before.before.loop in
+    let args = c.before.before.before.before.args in
+    found (λ k. not (marked args.marks.now k)) args.count loop.c loop-test.taken loop.inv.1
+    (unmarked args.marks.now loop.c c.if1.taken)
 
 add-c : tie.Need-add-c Inv-loop μ-loop
 add-c c = search needs
@@ -39,19 +39,20 @@ loop-less : tie.Need-loop-less Inv-loop μ-loop
 loop-less c = search needs
 
 loop-again : tie.Need-loop-again Inv-loop μ-loop
-loop-again c = (
-  search needs,
-  below-more (λ k. T (not (not (marked (c .before .before .before .before .args .marks .now) k))))
-      (c .before .before .before .loop .c) (c .before .before .before .loop .inv .1)
-      (twice (marked (c .before .before .before .before .args .marks .now) (c .before .before .before .loop .c))
-      (is-marked (c .before .before .before .before .args .marks .now) (c .before .before .before .loop .c)
-      (c .if1 .left))),
-)
+loop-again c =
+    let loop = c.before.before.before.loop in
+    let args = c.before.before.before.before.args in (
+      search needs,
+      below-more (λ k. T (not (not (marked args.marks.now k)))) loop.c loop.inv.1
+          (twice (marked args.marks.now loop.c) (is-marked args.marks.now loop.c c.if1.left)),
+    )
 
 returns-2 : tie.Need-returns-2 Inv-loop μ-loop
 returns-2 c =
-    not-found (λ k. not (marked (c .before .before .args .marks .now) k)) (c .before .before .args .count)
-    (c .before .loop .c) (c .loop-test .left) (c .before .loop .inv .0) (c .before .loop .inv .1)
+    let loop = c.before.loop in
+    let args = c.before.before.args in
+    not-found (λ k. not (marked args.marks.now k)) args.count loop.c c.loop-test.left loop.inv.0
+    loop.inv.1
 
 pub lowest-left-spec : {M : Type 1} → statement M
 lowest-left-spec =
