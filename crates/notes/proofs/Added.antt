@@ -13,7 +13,7 @@ use Rattle.notes.specs.Listed.{listed, listed-more, listed-set, listed-a
 use Rattle.notes.specs.declared.Counts.{Counts}
 use Rattle.notes.specs.Ranks.{nameAt, Ranked}
 use Rattle.notes.specs.Notes.{outputAt, inputAt, feedAt, draftOf, Fit, Stands}
-use Rattle.notes.specs.Noted.{Kept, Noted}
+use Rattle.notes.specs.Noted.{Kept, NameNoted, moreUnits, moreOutputs, moreInputs, moreFeeds}
 use Rattle.notes.proofs.Kept.{kept-all, kept-set, units-kept, outputs-kept, inputs-kept, feeds-kept, ranked-kept}
 use Rattle.notes.proofs.Named.{others-ranked}
 
@@ -22,11 +22,8 @@ sums a b x n e = omega arith
 
 module _ (t p s : List ℕ) (c : Counts) (f : Fit t p s c) where
   -- a unit more; its owner's slot is 0
-  module _ (q r : List ℕ) (b : ℕ) (h : c .units < 32) (n : Noted t p s q r 0 (c .units) b 0) where
-    abbrev moreUnits : Counts
-    moreUnits = record { units = c .units + 1; outputs = c .outputs; inputs = c .inputs; feeds = c .feeds }
-
-    unit-fits : Fit t q r moreUnits
+  module _ (q r : List ℕ) (b : ℕ) (h : c .units < 32) (n : NameNoted t p s q r 0 (c .units) b 0) where
+    unit-fits : Fit t q r (moreUnits c)
     unit-fits = record {
       places-long = n .places-long ∙ f .places-long;
       slots-long = n .slots-long ∙ f .slots-long;
@@ -45,7 +42,7 @@ module _ (t p s : List ℕ) (c : Counts) (f : Fit t p s c) where
           (omega arith) (λ j a z x y. omega arith) (f .inputs-ranked);
     }
 
-    pub unit-noted : Stands t q r moreUnits (addUnit (draftOf t p s c) (fieldAt t b))
+    pub unit-noted : Stands t q r (moreUnits c) (addUnit (draftOf t p s c) (fieldAt t b))
     unfolding draftOf addUnit nameAt
     unit-noted = record {
       fit = unit-fits;
@@ -68,11 +65,8 @@ module _ (t p s : List ℕ) (c : Counts) (f : Fit t p s c) where
     }
 
   -- an output more, of unit u
-  module _ (q r : List ℕ) (b u : ℕ) (h : c .outputs < 96) (n : Noted t p s q r 32 (c .outputs) b u) where
-    abbrev moreOutputs : Counts
-    moreOutputs = record { units = c .units; outputs = c .outputs + 1; inputs = c .inputs; feeds = c .feeds }
-
-    output-fits : Fit t q r moreOutputs
+  module _ (q r : List ℕ) (b u : ℕ) (h : c .outputs < 96) (n : NameNoted t p s q r 32 (c .outputs) b u) where
+    output-fits : Fit t q r (moreOutputs c)
     output-fits = record {
       places-long = n .places-long ∙ f .places-long;
       slots-long = n .slots-long ∙ f .slots-long;
@@ -92,7 +86,7 @@ module _ (t p s : List ℕ) (c : Counts) (f : Fit t p s c) where
           (omega arith) (λ j a z x y. omega arith) (f .inputs-ranked);
     }
 
-    pub output-noted : Stands t q r moreOutputs (addOutput (draftOf t p s c) (record { owner = u; name = fieldAt t b }))
+    pub output-noted : Stands t q r (moreOutputs c) (addOutput (draftOf t p s c) (record { owner = u; name = fieldAt t b }))
     unfolding draftOf addOutput outputAt nameAt
     output-noted = record {
       fit = output-fits;
@@ -115,10 +109,7 @@ module _ (t p s : List ℕ) (c : Counts) (f : Fit t p s c) where
     }
 
   -- an input more, of unit u: its name, then its kind, its line and that it is not joined
-  module _ (q r : List ℕ) (b u kind line : ℕ) (h : c .inputs < 96) (n : Noted t p s q r 128 (c .inputs) b u) where
-    abbrev moreInputs : Counts
-    moreInputs = record { units = c .units; outputs = c .outputs; inputs = c .inputs + 1; feeds = c .feeds }
-
+  module _ (q r : List ℕ) (b u kind line : ℕ) (h : c .inputs < 96) (n : NameNoted t p s q r 128 (c .inputs) b u) where
     abbrev lined : List ℕ
     lined = set q (224 + c .inputs) line
 
@@ -150,7 +141,7 @@ module _ (t p s : List ℕ) (c : Counts) (f : Fit t p s c) where
         length-set (set r (448 + c .inputs) kind) (544 + c .inputs) 255 ∙ length-set r (448 + c .inputs) kind
         ∙ n .slots-long ∙ f .slots-long
 
-    input-fits : Fit t lined kinded moreInputs
+    input-fits : Fit t lined kinded (moreInputs c)
     input-fits = record {
       places-long = length-set q (224 + c .inputs) line ∙ n .places-long ∙ f .places-long;
       slots-long = kinded-long;
@@ -193,7 +184,7 @@ module _ (t p s : List ℕ) (c : Counts) (f : Fit t p s c) where
           getD-set-same q (224 + x) line 0 (omega arith),
         )
 
-    pub input-noted : Stands t lined kinded moreInputs
+    pub input-noted : Stands t lined kinded (moreInputs c)
         (addInput (draftOf t p s c) (record { owner = u; name = fieldAt t b; kind = kind; source = 255; line = line }))
     unfolding draftOf addInput
     input-noted = record {
@@ -245,9 +236,6 @@ module _ (t p s : List ℕ) (c : Counts) (f : Fit t p s c) where
 
   -- a feed more
   module _ (x y : ℕ) (h : c .feeds < 128) where
-    abbrev moreFeeds : Counts
-    moreFeeds = record { units = c .units; outputs = c .outputs; inputs = c .inputs; feeds = c .feeds + 1 }
-
     abbrev fed : List ℕ
     fed = set (set s (640 + 2 * c .feeds) x) (641 + 2 * c .feeds) y
 
@@ -267,12 +255,12 @@ module _ (t p s : List ℕ) (c : Counts) (f : Fit t p s c) where
           getD-set-same (set s k x) (641 + 2 * c .feeds) y 0 (omega arith),
         )
 
-    pub feed-noted : Stands t p fed moreFeeds (addFeed (draftOf t p s c) (record { input = x; output = y }))
+    pub feed-noted : Stands t p fed (moreFeeds c) (addFeed (draftOf t p s c) (record { input = x; output = y }))
     unfolding draftOf addFeed
     feed-noted = record {
       fit = names-fit fed
           (length-set (set s (640 + 2 * c .feeds) x) (641 + 2 * c .feeds) y ∙ length-set s (640 + 2 * c .feeds) x ∙ f .slots-long)
-          (fed-kept 0 448 (omega arith)) moreFeeds refl refl refl (omega arith);
+          (fed-kept 0 448 (omega arith)) (moreFeeds c) refl refl refl (omega arith);
       is = rw (
         outputs-kept t p s p fed (c .outputs) kept-all (fed-kept 256 (256 + c .outputs) (omega (arith, f .outputs-most))),
         inputs-kept t p s p fed (c .inputs) kept-all kept-all (fed-kept 352 (352 + c .inputs) (omega (arith, f .inputs-most)))

@@ -10,7 +10,7 @@ use lib.Seq.{getD-set-same, getD-set-other}
 use Rattle.grammar.specs.Rows.{fieldAt}
 use Rattle.notes.specs.Compared.{compared}
 use Rattle.notes.specs.Ranks.{nameAt, keyAt, rankAt, Ranked, Between}
-use Rattle.notes.specs.Noted.{PutIn, Noted}
+use Rattle.notes.specs.Noted.{PutIn, NameNoted}
 use Rattle.notes.proofs.Ordered.{after-before}
 use Rattle.notes.proofs.Kept.{kept-all, kept-set, ranked-kept}
 
@@ -127,7 +127,7 @@ module _ (t p s : List ℕ) (b n a u i : ℕ) (f : Ranked t p s b n) (o : Betwee
           | no h ↦ (j + 1, omega arith, slot-moved j (omega arith) g ∙ e)
         ]
 
-    pub name-noted : Noted t p s q r b n a u
+    pub name-noted : NameNoted t p s q r b n a u
     name-noted = record {
       place = getD-set-same p (b + n) a 0 (omega arith);
       owner = owner-is;
@@ -148,7 +148,7 @@ module _ (t p s : List ℕ) (b n a u i : ℕ) (f : Ranked t p s b n) (o : Betwee
         ]
 
 -- the names of another kind keep their ranks
-pub others-ranked : (t p s q r : List ℕ) (b n a u d m : ℕ) → Noted t p s q r b n a u → b + n < 224
+pub others-ranked : (t p s q r : List ℕ) (b n a u d m : ℕ) → NameNoted t p s q r b n a u → b + n < 224
     → ((i : ℕ) → d ≤ i → i < d + m → b ≤ i → i ≤ b + n → ⊥) → Ranked t p s d m → Ranked t q r d m
 others-ranked t p s q r b n a u d m o room apart f =
     ranked-kept t p s q r d m

@@ -19,11 +19,14 @@ use Rattle.fields.specs.Spans.{fieldsAt}
 use Rattle.fields.specs.Promise.{fields-told}
 use Rattle.notes.specs.declared.Counts.{Counts}
 use Rattle.notes.specs.Listed.{listed}
-use Rattle.notes.specs.Notes.{draftOf, Fit}
-use Rattle.notes.proofs.Walk.{drop-all}
+use Rattle.notes.specs.Notes.{draftOf, Fit, Stands}
+use Rattle.names.proofs.Walk.{drop-all}
 use Rattle.notes.proofs.Ranks.{none-ranked}
-use Rattle.text.specs.declared.Taken.{Taken}
-use Rattle.text.specs.Took.{Told, Took}
+use Rattle.notes.specs.declared.Entry.{Entry}
+use Rattle.notes.specs.Noted.{placesWith, slotsWith, countsWith, Became, Room}
+use Rattle.notes.proofs.Declaring.{declares-stands, declares-room}
+use Rattle.lines.specs.declared.Taken.{Taken}
+use Rattle.lines.specs.Took.{Told, Took}
 use Rattle.text.specs.Walked.{Ended, Walked}
 
 -- ---- an ended text has a line at each of its places
@@ -97,28 +100,37 @@ going-starts t a p s h g w =
     record { fit = none-fits t p s h g; within = w; low = omega arith; left = λ room. refl }
 
 module _ (t : List ℕ) (a : ℕ) (p s : List ℕ) (c : Counts) (at k : ℕ) (g : Going t a p s c at k) where
-  module _ (l : Fields) (told : Told t at l) (q r : List ℕ) (o : Taken)
-      (took : Took t q r o (line (draftOf t p s c) k (rowAt t at))) where
+  module _ (l : Fields) (told : Told t at l) (entry : ℕ → Entry) (o : Taken)
+      (took : Took t p s c k entry o (line (draftOf t p s c) k (rowAt t at))) where
     left-then : (room : ℕ) → linesFrom room blank 2 (rows (drop a t))
-        ≡ cond (eqb (o .number) 0) (linesFrom room (draftOf t q r (o .counts)) (suc k) (rows (drop (l .next) t))) (stopped (o .number) k)
+        ≡ cond (eqb (o .number) 0)
+        (linesFrom room (line (draftOf t p s c) k (rowAt t at) .draft) (suc k) (rows (drop (l .next) t))) (stopped (o .number) k)
     unfolding linesFrom
-    left-then room =
-        g .left room ∙ rw (told .rest)
-        (rw (took .number, took .stands .is))
+    left-then room = g .left room ∙ rw (told .rest) (rw (took .number))
 
-    pub going-on : (n : ℕ) → o .number ≡ 0 → n ≡ l .next → Going t a q r (o .counts) n (k + 1)
-    going-on n z e = record {
-      fit = took .stands .fit;
+    -- what the line declares has its room
+    pub going-room : o .number ≡ 0 → Room p s c (o .entry)
+    going-room z = declares-room t p s c k (g .fit) (took .declares z)
+
+    pub going-on : (q r : List ℕ) (m : Counts) (n : ℕ) → o .number ≡ 0
+        → Became q r m (placesWith p c (o .entry) k) (slotsWith s c (o .entry)) (countsWith c (o .entry))
+        → n ≡ l .next → Going t a q r m n (k + 1)
+    going-on q r m n z b e = record {
+      fit = stands .fit;
       within = omega (arith, told .inside);
       low = omega (arith, g .low, told .further);
-      left = λ room. left-then room ∙ rw (z, e, add-one k);
+      left = λ room. left-then room ∙ rw (z, e, add-one k, stands .is);
     }
+      where
+        stands : Stands t q r m (line (draftOf t p s c) k (rowAt t at) .draft)
+        stands =
+            rw (b .places, b .slots, b .counts) (declares-stands t p s c k (g .fit) (took .declares z))
 
     pub going-stop : (o .number ≡ 0 → ⊥)
-        → Walked t q r (record { number = o .number; place = k; counts = o .counts })
+        → Walked t p s (record { number = o .number; place = k; counts = c })
         (λ room. linesFrom room blank 2 (rows (drop a t)))
     going-stop n = record {
-      fit = took .stands .fit;
+      fit = g .fit;
       left = λ room. left-then room ∙ rw (ne-eqb (o .number) 0 n);
     }
 

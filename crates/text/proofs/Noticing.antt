@@ -16,9 +16,9 @@ use Rattle.notes.specs.Notes.{draftOf}
 use Rattle.notes.proofs.Slots.{units-are, line-is}
 use Rattle.text.specs.declared.Answer.{Answer}
 use Rattle.text.specs.declared.Noted.{Noted}
-use Rattle.text.specs.Took.{Told}
+use Rattle.lines.specs.Took.{Told}
 use Rattle.text.specs.Walked.{Whole, Walked, Closed, Noticed, roomed}
-use Rattle.text.proofs.Outcomes.{is-input, no-input}
+use Rattle.lines.proofs.Outcomes.{is-input, no-input}
 
 -- ---- 33, 31
 

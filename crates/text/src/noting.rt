@@ -1,14 +1,30 @@
 // A text noted: all of its reading but the packed bytes.
 ghost use mathlib.Core.Path.{_≡_};
 ghost use lib.ListN.{length};
-ghost use Rattle.notes.specs.Notes.{Fit};
+ghost use Rattle.grammar.specs.Draft.{loose as looseOf};
+ghost use Rattle.notes.specs.Notes.{draftOf, Fit};
 ghost use Rattle.text.specs.Walked.{Closed, Noticed};
 use crate::Noted;
-use crate::draft;
-use crate::names;
 use crate::walk;
 use crate::whole;
+use crate::wide;
 use notes::Counts;
+
+// The first input that is not joined, or the count of inputs.
+fn loose(text: &[u8], places: &[u16; 320], slots: &[u8; 896], counts: Counts) -> usize
+    requires { ⌜ Fit (now text) (now places) (now slots) counts ⌝ }
+    ensures { λ r. ⌜ r ≡ looseOf (draftOf (now (text .entry)) (now (places .entry)) (now (slots .entry)) counts) ⌝ }
+{
+    let inputs = counts.inputs;
+    let mut x = 0;
+    while x < inputs {
+        if slots[544 + x] == 255 {
+            return x;
+        }
+        x += 1;
+    }
+    x
+}
 
 // Once all lines are noted: 33 where there is no unit, 31 where an input has no join.
 fn close(text: &[u8], places: &[u16; 320], slots: &[u8; 896], counts: Counts) -> Noted
@@ -23,12 +39,12 @@ fn close(text: &[u8], places: &[u16; 320], slots: &[u8; 896], counts: Counts) ->
             counts: counts,
         };
     }
-    let x = draft::loose(text, places, slots, counts);
+    let x = loose(text, places, slots, counts);
     let inputs = counts.inputs;
     if x < inputs {
         return Noted {
             number: 31,
-            place: names::wide(places[224 + x]),
+            place: wide(places[224 + x]),
             counts: counts,
         };
     }
@@ -67,7 +83,7 @@ pub fn note(text: &[u8], places: &mut [u16; 320], slots: &mut [u8; 896]) -> Note
             counts: none,
         };
     }
-    let noted = walk::walk(text, places, slots, names::wide(fields.next));
+    let noted = walk::walk(text, places, slots, wide(fields.next));
     let number = noted.number;
     if number != 0 {
         return noted;

@@ -7,8 +7,7 @@ ghost use Rattle.grammar.specs.Draft.{blank};
 ghost use Rattle.grammar.specs.Reading.{linesFrom};
 ghost use Rattle.text.specs.Walked.{Ended, Walked};
 use crate::Noted;
-use crate::lines;
-use crate::names;
+use crate::wide;
 use notes::Counts;
 
 // Notes the lines from place a on, of which the first is line 2, until one is refused.
@@ -30,7 +29,6 @@ pub fn walk(text: &[u8], places: &mut [u16; 320], slots: &mut [u8; 896], a: usiz
         let fields = fields::fields_at(text, at);
         let taken = lines::line(text, places, slots, counts, at, fields, number);
         let bad = taken.number;
-        counts = taken.counts;
         if bad != 0 {
             return Noted {
                 number: bad,
@@ -38,7 +36,9 @@ pub fn walk(text: &[u8], places: &mut [u16; 320], slots: &mut [u8; 896], a: usiz
                 counts: counts,
             };
         }
-        at = names::wide(fields.next);
+        let entry = taken.entry;
+        counts = notes::note(places, slots, counts, entry, number as u16);
+        at = wide(fields.next);
         number += 1;
     }
     Noted {

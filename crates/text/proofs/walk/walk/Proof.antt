@@ -5,7 +5,7 @@ use borrow.Author.Needs.{needs}
 use Prim.Native.Nat.{_-_}
 use native.Mathlib.Omega.{arith}
 use lib.ListN.{length}
-use Rattle.text.proofs.Going.{Going, going-starts, going-on, going-stop, going-end, told-fields}
+use Rattle.text.proofs.Going.{Going, going-starts, going-room, going-on, going-stop, going-end, told-fields}
 
 abbrev Inv-loop : tie.InvT-loop
 Inv-loop text places₀ slots₀ a counts₀ at₀ number₀ places slots counts at number =
@@ -23,24 +23,36 @@ fields-at-requires c κs = search needs
 line-requires : tie.Need-line-requires Inv-loop μ-loop
 line-requires c κs = (
   c .before .before .before .before .loop .inv .fit,
-  (
-    told-fields _ _ _ (c .before .before .before .before .before .before .pre .0)
-        (c .before .before .before .loop-test .taken) (c .before .before .fields-at .ensures),
-    omega (
-      arith,
-      c .before .before .before .before .loop .inv .low,
-      c .before .before .before .before .before .before .pre .0 .short,
-    ),
-  ),
+  (told-fields _ _ _ (c .before .before .before .before
+      .before .before .pre .0) (c .before .before .before .loop-test .taken) (c .before .before .fields-at
+      .ensures)),
 )
 
 returns : tie.Need-returns Inv-loop μ-loop
 returns c =
-    going-stop _ _ _ _ _ _ _ (c .before .before .before .before .before .before .before .loop .inv) _
-    (told-fields _ _ _ (c .before .before .before .before .before .before .before .before .before .pre .0)
-    (c .before .before .before .before .before .before .loop-test .taken)
-    (c .before .before .before .before .before .fields-at .ensures)) _ _ _ (c .before .before .line .ensures)
-    (c .if1 .taken)
+    going-stop _ _ _ _ _ _ _ (c .before .before .before .before .before .before .loop .inv) _ (told-fields _ _
+    _ (c .before .before .before .before .before .before .before .before .pre .0) (c .before .before .before
+    .before .before .loop-test .taken) (c .before .before .before .before .fields-at .ensures)) _ _ (c .before
+    .line .ensures) (c .if1 .taken)
+
+cast-note : tie.Need-cast-note Inv-loop μ-loop
+cast-note c =
+    omega (
+      arith,
+      c .before .before .before .before .before .before .before .before .before .loop .inv .low,
+      c
+          .before .before .before .before .before .before .before .before .loop-test .taken,
+      c .before .before
+          .before .before .before .before .before .before .before .before .before .pre .0 .short,
+    )
+
+note-requires : tie.Need-note-requires Inv-loop μ-loop
+note-requires c κs =
+    going-room _ _ _ _ _ _ _ (c .before .before .before .before .before .before .before .before .before .loop
+    .inv) _ (told-fields _ _ _ (c .before .before .before .before .before .before .before .before .before
+    .before .before .pre .0) (c .before .before .before .before .before .before .before .before .loop-test
+    .taken) (c .before .before .before .before .before .before .before .fields-at .ensures)) _ _ (c .before
+    .before .before .before .line .ensures) (c .before .before .before .if1 .left)
 
 wide-requires : tie.Need-wide-requires Inv-loop μ-loop
 wide-requires c κs = search needs
@@ -49,8 +61,10 @@ add-number : tie.Need-add-number Inv-loop μ-loop
 add-number c =
     omega (
       arith,
-      c .before .before .before .before .before .before .before .before .loop .inv .low,
-      c .before .before .before .before .before .before .before .before .before .before .pre .0 .short,
+      c .before .before .before .before .before .before .before .before .before .before .before
+          .loop .inv .low,
+      c .before .before .before .before .before .before .before .before .before .before .before
+          .before .before .pre .0 .short,
     )
 
 loop-less : tie.Need-loop-less Inv-loop μ-loop
@@ -58,18 +72,25 @@ loop-less c =
     omega (
       arith,
       c .wide .ensures,
-      (told-fields _ _ _ (c .before .before .before .before .before .before .before .before .before .before .pre .0) (c .before .before .before .before .before .before .before .loop-test .taken) (c .before .before .before .before .before .before .fields-at .ensures)) .further,
-      (told-fields _ _ _ (c .before .before .before .before .before .before .before .before .before .before .pre .0) (c .before .before .before .before .before .before .before .loop-test .taken) (c .before .before .before .before .before .before .fields-at .ensures)) .inside,
+      (told-fields _ _ _ (c .before .before .before .before .before .before
+          .before .before .before .before .before .before .before .pre .0) (c .before .before .before .before
+          .before .before .before .before .before .before .loop-test .taken) (c .before .before .before .before
+          .before .before .before .before .before .fields-at .ensures)) .further,
+      (told-fields _ _ _ (c .before
+          .before .before .before .before .before .before .before .before .before .before .before .before .pre .0)
+          (c .before .before .before .before .before .before .before .before .before .before .loop-test .taken) (c
+          .before .before .before .before .before .before .before .before .before .fields-at .ensures)) .inside,
     )
 
 loop-again : tie.Need-loop-again Inv-loop μ-loop
 loop-again c =
-    going-on _ _ _ _ _ _ _ (c .before .before .before .before .before .before .before .before .loop .inv) _
-    (told-fields _ _ _
-    (c .before .before .before .before .before .before .before .before .before .before .pre .0)
-    (c .before .before .before .before .before .before .before .loop-test .taken)
-    (c .before .before .before .before .before .before .fields-at .ensures)) _ _ _
-    (c .before .before .before .line .ensures) _ (c .before .if1 .left) (c .wide .ensures)
+    going-on _ _ _ _ _ _ _ (c .before .before .before .before .before .before .before .before .before .before
+    .before .loop .inv) _ (told-fields _ _ _ (c .before .before .before .before .before .before .before
+    .before .before .before .before .before .before .pre .0) (c .before .before .before .before .before
+    .before .before .before .before .before .loop-test .taken) (c .before .before .before .before .before
+    .before .before .before .before .fields-at .ensures)) _ _ (c .before .before .before .before .before
+    .before .line .ensures) _ _ _ _ (c .before .before .before .before .before .if1 .left) (c .before .note
+    .ensures) (c .wide .ensures)
 
 returns-2 : tie.Need-returns-2 Inv-loop μ-loop
 returns-2 c = going-end _ _ _ _ _ _ _ (c .before .loop .inv) (c .loop-test .left)
@@ -84,6 +105,8 @@ walk-spec =
     fields-at-requires
     line-requires
     returns
+    cast-note
+    note-requires
     wide-requires
     add-number
     loop-less
