@@ -11,6 +11,7 @@ use Rattle.grammar.specs.Rows.{rowAt, word, fieldAt}
 use Rattle.grammar.specs.Draft.{Draft, Input, unjoined, unitNamed, outputNamed, inputNamed, addUnit, addOutput, addInput}
 use Rattle.grammar.specs.Lines.{refused, refuse, taken, unitLine, outLine, inLine, kindOf}
 use Rattle.fields.specs.declared.Fields.{Fields}
+use Rattle.notes.specs.Layout.{outputsBase, inputsBase}
 use Rattle.notes.specs.declared.Counts.{Counts}
 use Rattle.notes.specs.Notes.{draftOf, Fit, named}
 use Rattle.notes.specs.Ranks.{Between, Spotted}
@@ -86,7 +87,7 @@ module _ (t p s : List ℕ) (c : Counts) (fit : Fit t p s c) (a : ℕ) (l : Fiel
     out-27 g = rw (h .counted, h .named, ← out-unit, no-unit t p s c u g)
 
     module _ (g : u < c .units) (w : List ℕ) (e : w ≡ word f 2) (i : ℕ) (b : Bool)
-        (o : Spotted t p s 32 (c .outputs) u w i b) where
+        (o : Spotted t p s outputsBase (c .outputs) u w i b) where
       pub out-26 : b ≡ true → refused 26 d ≡ outLine d f
       unfolding outLine refuse
       out-26 z =
@@ -133,7 +134,7 @@ module _ (t p s : List ℕ) (c : Counts) (fit : Fit t p s c) (a : ℕ) (l : Fiel
         out-takes x =
             declared t p s c k (outEntry d f (l .from)) (outLine d f) (nameEntry 2 u 0 (from 2) i) _
             (output (nameEntry 2 u 0 (from 2) i) refl x
-            (subst (λ y. Between t p s 32 (c .outputs) u y i i) (e ∙ sym (begins 3 2 2 h (omega arith) (omega arith))) (o .free z)))
+            (subst (λ y. Between t p s outputsBase (c .outputs) u y i i) (e ∙ sym (begins 3 2 2 h (omega arith) (omega arith))) (o .free z)))
             (out-more x) (ap (λ y. nameEntry 2 y 0 (from 2) i) out-unit)
 
   -- ---- `in`, unit, name, `delayed` or `reactive`
@@ -155,7 +156,7 @@ module _ (t p s : List ℕ) (c : Counts) (fit : Fit t p s c) (a : ℕ) (l : Fiel
       in-27 g = rw (h .counted, h .named, ← in-kind, ne-eqb kind 2 some, ← in-unit, no-unit t p s c u g)
 
       module _ (g : u < c .units) (w : List ℕ) (e : w ≡ word f 2) (i : ℕ) (b : Bool)
-          (o : Spotted t p s 128 (c .inputs) u w i b) where
+          (o : Spotted t p s inputsBase (c .inputs) u w i b) where
         pub in-26 : b ≡ true → refused 26 d ≡ inLine d k f
         unfolding inLine refuse
         in-26 z =
@@ -214,5 +215,5 @@ module _ (t p s : List ℕ) (c : Counts) (fit : Fit t p s c) (a : ℕ) (l : Fiel
           in-takes y =
               declared t p s c k (inEntry d f (l .from)) (inLine d k f) (nameEntry 3 u kind (from 2) i) _
               (input (nameEntry 3 u kind (from 2) i) refl y
-              (subst (λ n. Between t p s 128 (c .inputs) u n i i) (e ∙ sym (begins 4 2 2 h (omega arith) (omega arith))) (o .free z)))
+              (subst (λ n. Between t p s inputsBase (c .inputs) u n i i) (e ∙ sym (begins 4 2 2 h (omega arith) (omega arith))) (o .free z)))
               (in-more y) in-entry

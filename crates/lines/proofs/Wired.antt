@@ -10,6 +10,7 @@ use Rattle.search.specs.Least.{leastFrom}
 use Rattle.grammar.specs.Rows.{word}
 use Rattle.grammar.specs.Draft.{Draft, unitNamed, outputNamed, inputNamed, feedOf, addFeed, addJoin}
 use Rattle.grammar.specs.Lines.{refused, refuse, taken, feedLine, joinLine}
+use Rattle.notes.specs.Layout.{outputsBase, inputsBase, sourcesBase}
 use Rattle.notes.specs.declared.Counts.{Counts}
 use Rattle.notes.specs.Notes.{draftOf, Fit, named, isFed}
 use Rattle.notes.specs.Noted.{feed, join}
@@ -30,9 +31,9 @@ module _ (t p s : List ℕ) (c : Counts) (fit : Fit t p s c) (f : List (List ℕ
   unit-is i b n r x = x .unit ∙ unit-found t p s c fit (word f i)
 
   -- ---- `feed`, unit, input, output
-  module _ (h : Lets f 4 3) (r : Port) (x : Ported t p s c f 1 128 (c .inputs) r) where
+  module _ (h : Lets f 4 3) (r : Port) (x : Ported t p s c f 1 inputsBase (c .inputs) r) where
     feed-unit : r .unit ≡ unitNamed d (word f 1)
-    feed-unit = unit-is 1 128 (c .inputs) r x
+    feed-unit = unit-is 1 inputsBase (c .inputs) r x
 
     pub feed-27 : (r .field ≡ 0 → ⊥) → refused 27 d ≡ feedLine d f
     unfolding feedLine refuse
@@ -52,7 +53,7 @@ module _ (t p s : List ℕ) (c : Counts) (fit : Fit t p s c) (f : List (List ℕ
       feed-input = x .some z .1 .1 ∙ input-found t p s c fit (r .unit) (word f 2)
 
       module _ (v : List ℕ) (e : v ≡ word f 3) (y : ℕ)
-          (q : y ≡ leastFrom (named t p s 32 (r .unit) v) (c .outputs) 0) where
+          (q : y ≡ leastFrom (named t p s outputsBase (r .unit) v) (c .outputs) 0) where
         feed-output : y ≡ outputNamed d (r .unit) (word f 3)
         feed-output = q ∙ output-found t p s c fit (r .unit) v ∙ ap (outputNamed d (r .unit)) e
 
@@ -136,9 +137,9 @@ module _ (t p s : List ℕ) (c : Counts) (fit : Fit t p s c) (f : List (List ℕ
                 (feed (wireEntry 4 (r .number) y) refl refl m) (feed-more m) feed-entry
 
   -- ---- `join`, unit, output, unit, input
-  module _ (h : Lets f 5 4) (r : Port) (x : Ported t p s c f 1 32 (c .outputs) r) where
+  module _ (h : Lets f 5 4) (r : Port) (x : Ported t p s c f 1 outputsBase (c .outputs) r) where
     from-unit : r .unit ≡ unitNamed d (word f 1)
-    from-unit = unit-is 1 32 (c .outputs) r x
+    from-unit = unit-is 1 outputsBase (c .outputs) r x
 
     pub join-27-from : (r .field ≡ 0 → ⊥) → refused 27 d ≡ joinLine d f
     unfolding joinLine refuse
@@ -153,12 +154,12 @@ module _ (t p s : List ℕ) (c : Counts) (fit : Fit t p s c) (f : List (List ℕ
       )
     ]
 
-    module _ (z : r .field ≡ 0) (o : Port) (y : Ported t p s c f 3 128 (c .inputs) o) where
+    module _ (z : r .field ≡ 0) (o : Port) (y : Ported t p s c f 3 inputsBase (c .inputs) o) where
       from-output : r .number ≡ outputNamed d (r .unit) (word f 2)
       from-output = x .some z .1 .1 ∙ output-found t p s c fit (r .unit) (word f 2)
 
       to-unit : o .unit ≡ unitNamed d (word f 3)
-      to-unit = unit-is 3 128 (c .inputs) o y
+      to-unit = unit-is 3 inputsBase (c .inputs) o y
 
       pub join-27-to : (o .field ≡ 0 → ⊥) → refused 27 d ≡ joinLine d f
       unfolding joinLine refuse
@@ -190,7 +191,7 @@ module _ (t p s : List ℕ) (c : Counts) (fit : Fit t p s c) (f : List (List ℕ
         to-input : o .number ≡ inputNamed d (o .unit) (word f 4)
         to-input = y .some w .1 .1 ∙ input-found t p s c fit (o .unit) (word f 4)
 
-        pub join-30 : (getD s (544 + o .number) 0 ≡ 255 → ⊥) → refused 30 d ≡ joinLine d f
+        pub join-30 : (getD s (sourcesBase + o .number) 0 ≡ 255 → ⊥) → refused 30 d ≡ joinLine d f
         unfolding joinLine refuse
         join-30 n =
             rw (
@@ -205,10 +206,10 @@ module _ (t p s : List ℕ) (c : Counts) (fit : Fit t p s c) (f : List (List ℕ
               ← to-input,
               is-input t p s c (o .number) (y .some w .1 .0),
               source-is t p s c (o .number) (y .some w .1 .0),
-              ne-eqb (getD s (544 + o .number) 0) 255 n,
+              ne-eqb (getD s (sourcesBase + o .number) 0) 255 n,
             )
 
-        join-more : getD s (544 + o .number) 0 ≡ 255 → taken (addJoin d (o .number) (r .number)) ≡ joinLine d f
+        join-more : getD s (sourcesBase + o .number) 0 ≡ 255 → taken (addJoin d (o .number) (r .number)) ≡ joinLine d f
         unfolding joinLine refuse
         join-more n =
             rw (
@@ -223,14 +224,14 @@ module _ (t p s : List ℕ) (c : Counts) (fit : Fit t p s c) (f : List (List ℕ
               ← to-input,
               is-input t p s c (o .number) (y .some w .1 .0),
               source-is t p s c (o .number) (y .some w .1 .0),
-              eq-eqb (getD s (544 + o .number) 0) 255 n,
+              eq-eqb (getD s (sourcesBase + o .number) 0) 255 n,
             )
 
         join-entry : wireEntry 5 (o .number) (r .number) ≡ joinEntry d f 0
         unfolding joinEntry
         join-entry = rw (← from-unit, ← from-output, ← to-unit, ← to-input)
 
-        pub join-takes : getD s (544 + o .number) 0 ≡ 255
+        pub join-takes : getD s (sourcesBase + o .number) 0 ≡ 255
             → Took t p s c k (joinEntry d f) (takes (wireEntry 5 (o .number) (r .number))) (joinLine d f)
         join-takes n =
             declared t p s c k (joinEntry d f) (joinLine d f) (wireEntry 5 (o .number) (r .number)) _

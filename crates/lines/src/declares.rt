@@ -1,9 +1,10 @@
 // The lines that declare a unit, an output or an input; the line begins at place at.
 ghost use mathlib.Core.Path.{_≡_};
+ghost use Prim.Native.Nat.{_≤_, _<_};
 ghost use Rattle.grammar.specs.Rows.{rowAt};
 ghost use Rattle.grammar.specs.Lines.{unitLine, outLine, inLine, kindOf};
 ghost use Rattle.notes.specs.Notes.{draftOf, Fit};
-ghost use Rattle.lines.specs.Took.{Told, unitEntry, outEntry, inEntry, Took};
+ghost use Rattle.lines.specs.Took.{Told, nameEntry, unitEntry, outEntry, inEntry, Took};
 use crate::Taken;
 use crate::refused;
 use crate::shape::shape;
@@ -11,12 +12,38 @@ use crate::shape::word;
 use fields::Fields;
 use notes::Counts;
 use notes::Entry;
+use notes::INPUTS;
+use notes::OUTPUTS;
+use notes::Places;
+use notes::Slots;
+use notes::UNITS;
+
+// What a line with a name declares: its owner, its rank, its kind, and where it begins.
+fn named(what: u8, owner: usize, rank: usize, kind: u8, begin: u16) -> Taken
+    requires { ⌜ (owner < 32) × (rank ≤ 96) ⌝ }
+    ensures { λ r. ⌜ r ≡ record { number = 0; field = 0; entry = nameEntry what owner kind begin rank } ⌝ }
+{
+    let entry = Entry {
+        what: what,
+        owner: owner as u8,
+        rank: rank as u8,
+        kind: kind,
+        input: 0,
+        output: 0,
+        begin: begin,
+    };
+    Taken {
+        number: 0,
+        field: 0,
+        entry: entry,
+    }
+}
 
 // `unit`, name.
 pub fn unit_line(
     text: &[u8],
-    places: &[u16; 320],
-    slots: &[u8; 896],
+    places: &Places,
+    slots: &Slots,
     counts: Counts,
     at: usize,
     fields: Fields,
@@ -33,34 +60,22 @@ pub fn unit_line(
         return bad;
     }
     let units = counts.units;
-    let unit = names::seek(text, places, slots, 0, units, 0, word(text, at, fields, 1));
+    let name = word(text, at, fields, 1);
+    let unit = names::seek(text, places, slots, UNITS, units, 0, name);
     if unit.here {
         return refused(26, 2);
     }
     if 32 <= units {
         return refused(29, 0);
     }
-    let entry = Entry {
-        what: 1,
-        owner: 0,
-        rank: unit.rank as u8,
-        kind: 0,
-        input: 0,
-        output: 0,
-        begin: fields.from[1],
-    };
-    Taken {
-        number: 0,
-        field: 0,
-        entry: entry,
-    }
+    named(1, 0, unit.rank, 0, fields.from[1])
 }
 
 // `out`, unit, name.
 pub fn out_line(
     text: &[u8],
-    places: &[u16; 320],
-    slots: &[u8; 896],
+    places: &Places,
+    slots: &Slots,
     counts: Counts,
     at: usize,
     fields: Fields,
@@ -77,40 +92,21 @@ pub fn out_line(
         return bad;
     }
     let units = counts.units;
-    let u = names::find(text, places, slots, 0, units, 0, word(text, at, fields, 1));
+    let owner = word(text, at, fields, 1);
+    let u = names::find(text, places, slots, UNITS, units, 0, owner);
     if units <= u {
         return refused(27, 2);
     }
     let outputs = counts.outputs;
-    let output = names::seek(
-        text,
-        places,
-        slots,
-        32,
-        outputs,
-        u as u8,
-        word(text, at, fields, 2),
-    );
+    let name = word(text, at, fields, 2);
+    let output = names::seek(text, places, slots, OUTPUTS, outputs, u as u8, name);
     if output.here {
         return refused(26, 3);
     }
     if 96 <= outputs {
         return refused(29, 0);
     }
-    let entry = Entry {
-        what: 2,
-        owner: u as u8,
-        rank: output.rank as u8,
-        kind: 0,
-        input: 0,
-        output: 0,
-        begin: fields.from[2],
-    };
-    Taken {
-        number: 0,
-        field: 0,
-        entry: entry,
-    }
+    named(2, u, output.rank, 0, fields.from[2])
 }
 
 // 0 `delayed`, 1 `reactive`, 2 another word.
@@ -129,8 +125,8 @@ fn kind_of(word: &[u8]) -> u8
 // `in`, unit, name, `delayed` or `reactive`.
 pub fn in_line(
     text: &[u8],
-    places: &[u16; 320],
-    slots: &[u8; 896],
+    places: &Places,
+    slots: &Slots,
     counts: Counts,
     at: usize,
     fields: Fields,
@@ -151,38 +147,19 @@ pub fn in_line(
         return refused(28, 4);
     }
     let units = counts.units;
-    let u = names::find(text, places, slots, 0, units, 0, word(text, at, fields, 1));
+    let owner = word(text, at, fields, 1);
+    let u = names::find(text, places, slots, UNITS, units, 0, owner);
     if units <= u {
         return refused(27, 2);
     }
     let inputs = counts.inputs;
-    let input = names::seek(
-        text,
-        places,
-        slots,
-        128,
-        inputs,
-        u as u8,
-        word(text, at, fields, 2),
-    );
+    let name = word(text, at, fields, 2);
+    let input = names::seek(text, places, slots, INPUTS, inputs, u as u8, name);
     if input.here {
         return refused(26, 3);
     }
     if 96 <= inputs {
         return refused(29, 0);
     }
-    let entry = Entry {
-        what: 3,
-        owner: u as u8,
-        rank: input.rank as u8,
-        kind: kind,
-        input: 0,
-        output: 0,
-        begin: fields.from[2],
-    };
-    Taken {
-        number: 0,
-        field: 0,
-        entry: entry,
-    }
+    named(3, u, input.rank, kind, fields.from[2])
 }

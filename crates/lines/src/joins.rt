@@ -15,15 +15,23 @@ use crate::shape::word;
 use fields::Fields;
 use notes::Counts;
 use notes::Entry;
+use notes::FED;
+use notes::FEEDS;
+use notes::INPUTS;
+use notes::OUTPUTS;
+use notes::Places;
+use notes::SOURCES;
+use notes::Slots;
+use notes::UNJOINED;
 
 // The feed from input x to output y among that many feeds, or their count.
-fn feed_of(slots: &[u8; 896], feeds: usize, x: u8, y: u8) -> usize
+fn feed_of(slots: &Slots, feeds: usize, x: u8, y: u8) -> usize
     requires { ⌜ feeds ≤ 128 ⌝ }
     ensures { λ r. ⌜ r ≡ leastFrom (isFed (now (slots .entry)) x y) feeds 0 ⌝ }
 {
     let mut k = 0;
     while k < feeds {
-        if slots[640 + 2 * k] == x && slots[641 + 2 * k] == y {
+        if slots[FEEDS + 2 * k] == x && slots[FED + 2 * k] == y {
             return k;
         }
         k += 1;
@@ -55,8 +63,8 @@ fn wired(what: u8, x: usize, y: usize) -> Taken
 // `feed`, unit, input, output.
 pub fn feed_line(
     text: &[u8],
-    places: &[u16; 320],
-    slots: &[u8; 896],
+    places: &Places,
+    slots: &Slots,
     counts: Counts,
     at: usize,
     fields: Fields,
@@ -80,23 +88,17 @@ pub fn feed_line(
         at,
         fields,
         1,
-        128,
+        INPUTS,
         counts.inputs,
     );
     if input.field != 0 {
         return refused(27, input.field);
     }
+    let u = input.unit as u8;
     let x = input.number;
     let outputs = counts.outputs;
-    let y = names::find(
-        text,
-        places,
-        slots,
-        32,
-        outputs,
-        input.unit as u8,
-        word(text, at, fields, 3),
-    );
+    let name = word(text, at, fields, 3);
+    let y = names::find(text, places, slots, OUTPUTS, outputs, u, name);
     if outputs <= y {
         return refused(27, 4);
     }
@@ -114,8 +116,8 @@ pub fn feed_line(
 // `join`, unit, output, unit, input.
 pub fn join_line(
     text: &[u8],
-    places: &[u16; 320],
-    slots: &[u8; 896],
+    places: &Places,
+    slots: &Slots,
     counts: Counts,
     at: usize,
     fields: Fields,
@@ -139,7 +141,7 @@ pub fn join_line(
         at,
         fields,
         1,
-        32,
+        OUTPUTS,
         counts.outputs,
     );
     if from.field != 0 {
@@ -153,14 +155,14 @@ pub fn join_line(
         at,
         fields,
         3,
-        128,
+        INPUTS,
         counts.inputs,
     );
     if to.field != 0 {
         return refused(27, to.field);
     }
     let x = to.number;
-    if slots[544 + x] != 255 {
+    if slots[SOURCES + x] != UNJOINED {
         return refused(30, 5);
     }
     wired(5, x, from.number)

@@ -19,6 +19,8 @@ use joins::feed_line;
 use joins::join_line;
 use notes::Counts;
 use notes::Entry;
+use notes::Places;
+use notes::Slots;
 use shape::word;
 
 // 0 and what the line declares; or the number of its refusal and the leftmost field at fault, from 1, or 0 where none is.
@@ -80,8 +82,8 @@ fn keyword_of(word: &[u8]) -> u8
 // The line with that number, by its keyword; it begins at place at, which the contracts speak of.
 pub fn line(
     text: &[u8],
-    places: &[u16; 320],
-    slots: &[u8; 896],
+    places: &Places,
+    slots: &Slots,
     counts: Counts,
     at: usize,
     fields: Fields,

@@ -8,12 +8,15 @@ use crate::Port;
 use crate::shape::word;
 use fields::Fields;
 use notes::Counts;
+use notes::Places;
+use notes::Slots;
+use notes::UNITS;
 
 // The unit that field i names, and its port that the next field names, among count names from name base on.
 pub fn port(
     text: &[u8],
-    places: &[u16; 320],
-    slots: &[u8; 896],
+    places: &Places,
+    slots: &Slots,
     counts: Counts,
     at: usize,
     fields: Fields,
@@ -28,7 +31,8 @@ pub fn port(
     ensures { λ r. ⌜ Ported (now (text .entry)) (now (places .entry)) (now (slots .entry)) counts (rowAt (now (text .entry)) at) i base count r ⌝ }
 {
     let units = counts.units;
-    let u = names::find(text, places, slots, 0, units, 0, word(text, at, fields, i));
+    let owner = word(text, at, fields, i);
+    let u = names::find(text, places, slots, UNITS, units, 0, owner);
     if units <= u {
         return Port {
             unit: u,
@@ -36,15 +40,8 @@ pub fn port(
             field: i as u8 + 1,
         };
     }
-    let x = names::find(
-        text,
-        places,
-        slots,
-        base,
-        count,
-        u as u8,
-        word(text, at, fields, i + 1),
-    );
+    let name = word(text, at, fields, i + 1);
+    let x = names::find(text, places, slots, base, count, u as u8, name);
     if count <= x {
         return Port {
             unit: u,

@@ -7,6 +7,10 @@ ghost use Rattle.notes.specs.Compared.{compared};
 ghost use Rattle.notes.specs.Ranks.{keyAt, Ranked, Spotted};
 ghost use Rattle.notes.specs.Notes.{named};
 ghost use Rattle.names.specs.Alike.{Wordy};
+ghost use Rattle.notes.specs.Layout.{namesSize};
+use notes::OWNERS;
+use notes::Places;
+use notes::Slots;
 
 mod words;
 
@@ -24,19 +28,12 @@ fn wide(place: u16) -> usize
 }
 
 // Name k beside the word as a name of that owner: 0 before it, 1 the same, 2 after it.
-fn compare_key(
-    text: &[u8],
-    places: &[u16; 320],
-    slots: &[u8; 896],
-    k: usize,
-    owner: u8,
-    word: &[u8],
-) -> u8
-    requires { ⌜ k < 224 ⌝ }
+fn compare_key(text: &[u8], places: &Places, slots: &Slots, k: usize, owner: u8, word: &[u8]) -> u8
+    requires { ⌜ k < namesSize ⌝ }
     requires { ⌜ Wordy (now word) ⌝ }
     ensures { λ r. ⌜ r ≡ compared (keyAt (now (text .entry)) (now (places .entry)) (now (slots .entry)) k) (owner ∷ now (word .entry)) ⌝ }
 {
-    let own = slots[224 + k];
+    let own = slots[OWNERS + k];
     if own < owner {
         return 0;
     }
@@ -49,8 +46,8 @@ fn compare_key(
 // The rank of the word, as a name of that owner, among count names from name base on; where it has none, the one it would have.
 pub fn seek(
     text: &[u8],
-    places: &[u16; 320],
-    slots: &[u8; 896],
+    places: &Places,
+    slots: &Slots,
     base: usize,
     count: usize,
     owner: u8,
@@ -87,8 +84,8 @@ pub fn seek(
 // The number of the word, as a name of that owner, among count names from name base on, or count.
 pub fn find(
     text: &[u8],
-    places: &[u16; 320],
-    slots: &[u8; 896],
+    places: &Places,
+    slots: &Slots,
     base: usize,
     count: usize,
     owner: u8,

@@ -5,6 +5,7 @@ use mathlib.Core.List.{List}
 use native.Mathlib.Omega.{arith}
 use lib.ListN.{set}
 use borrow.Author.Tests.{eq-eqb, ne-eqb}
+use Rattle.notes.specs.Layout.{outputsBase, inputsBase, linesBase, kindsBase, sourcesBase}
 use Rattle.notes.specs.declared.Counts.{Counts}
 use Rattle.notes.specs.declared.Entry.{Entry}
 use Rattle.notes.specs.Noted.{namedPlaces, namedSlots, inputPlaces, inputSlots, feedSlots, joinSlots}
@@ -19,7 +20,7 @@ module _ (p s : List ℕ) (c : Counts) (e : Entry) (k : ℕ) where
     became-unit z b = rw (eq-eqb (e .what) 1 z) b
 
     pub became-output : e .what ≡ 2
-        → Became q r m (namedPlaces p 32 (c .outputs) e) (namedSlots s 32 (c .outputs) e) (moreOutputs c)
+        → Became q r m (namedPlaces p outputsBase (c .outputs) e) (namedSlots s outputsBase (c .outputs) e) (moreOutputs c)
         → Became q r m (placesWith p c e k) (slotsWith s c e) (countsWith c e)
     unfolding placesWith slotsWith countsWith
     became-output z b = rw (ne-eqb (e .what) 1 (λ y. omega arith), eq-eqb (e .what) 2 z) b
@@ -67,12 +68,12 @@ module _ (p s : List ℕ) (c : Counts) (e : Entry) (k : ℕ) where
 
 -- an input's name is noted, and then its line, its kind and that it is not joined
 pub became-lined : (p s q r : List ℕ) (c : Counts) (e : Entry) (k : ℕ)
-    → q ≡ namedPlaces p 128 (c .inputs) e → r ≡ namedSlots s 128 (c .inputs) e
-    → Became (set q (224 + c .inputs) k) (set (set r (448 + c .inputs) (e .kind)) (544 + c .inputs) 255) (moreInputs c)
+    → q ≡ namedPlaces p inputsBase (c .inputs) e → r ≡ namedSlots s inputsBase (c .inputs) e
+    → Became (set q (linesBase + c .inputs) k) (set (set r (kindsBase + c .inputs) (e .kind)) (sourcesBase + c .inputs) 255) (moreInputs c)
     (inputPlaces p (c .inputs) e k) (inputSlots s (c .inputs) e) (moreInputs c)
 unfolding inputPlaces inputSlots
 became-lined p s q r c e k a b = record {
-  places = ap (λ l. set l (224 + c .inputs) k) a;
-  slots = ap (λ l. set (set l (448 + c .inputs) (e .kind)) (544 + c .inputs) 255) b;
+  places = ap (λ l. set l (linesBase + c .inputs) k) a;
+  slots = ap (λ l. set (set l (kindsBase + c .inputs) (e .kind)) (sourcesBase + c .inputs) 255) b;
   counts = refl;
 }

@@ -14,6 +14,7 @@ use Rattle.search.specs.Truth.{T-and, and-T, either, is-true, eq-true}
 use Rattle.grammar.specs.Words.{same}
 use Rattle.grammar.specs.Same.{same-true, same-self}
 use Rattle.grammar.specs.Rows.{fieldAt}
+use Rattle.notes.specs.Layout.{namesSize, ownersBase}
 use Rattle.notes.specs.Compared.{compared}
 use Rattle.notes.specs.Ranks.{nameAt, keyAt, rankAt, Ranked, Between, Spotted}
 use Rattle.notes.specs.Notes.{isNamed, named}
@@ -25,33 +26,33 @@ module _ (t p s : List ℕ) (u : ℕ) (w : List ℕ) (k : ℕ) where
   pub key-named : keyAt t p s k ≡ u ∷ w → T (isNamed t p s u w k)
   unfolding keyAt isNamed
   key-named e =
-      and-T (eqb (getD s (224 + k) 0) u) (same (nameAt t p k) w)
-      (eq-true (getD s (224 + k) 0) u (ap (λ l. getD l 0 0) e))
+      and-T (eqb (getD s (ownersBase + k) 0) u) (same (nameAt t p k) w)
+      (eq-true (getD s (ownersBase + k) 0) u (ap (λ l. getD l 0 0) e))
       (rw (ap (λ l. lib.ListN.drop 1 l) e) (same-self w))
 
   pub named-key : T (isNamed t p s u w k) → keyAt t p s k ≡ u ∷ w
   unfolding keyAt isNamed
   named-key h =
-      let (a, e) = T-and (eqb (getD s (224 + k) 0) u) (same (nameAt t p k) w) h in
-      rw (eqb-true (getD s (224 + k) 0) u (is-true _ a), same-true (nameAt t p k) w e)
+      let (a, e) = T-and (eqb (getD s (ownersBase + k) 0) u) (same (nameAt t p k) w) h in
+      rw (eqb-true (getD s (ownersBase + k) 0) u (is-true _ a), same-true (nameAt t p k) w e)
 
 -- ---- a key compared: the owner first
 
 module _ (t p s : List ℕ) (k u : ℕ) (w : List ℕ) where
-  pub owner-before : getD s (224 + k) 0 < u → 0 ≡ compared (keyAt t p s k) (u ∷ w)
+  pub owner-before : getD s (ownersBase + k) 0 < u → 0 ≡ compared (keyAt t p s k) (u ∷ w)
   unfolding keyAt
   owner-before h = sym (first-before _ _ _ _ h)
 
-  pub owner-after : u < getD s (224 + k) 0 → 2 ≡ compared (keyAt t p s k) (u ∷ w)
+  pub owner-after : u < getD s (ownersBase + k) 0 → 2 ≡ compared (keyAt t p s k) (u ∷ w)
   unfolding keyAt
   owner-after h = sym (first-after _ _ _ _ h)
 
-  pub owner-same : getD s (224 + k) 0 ≡ u → (a : ℕ) → a ≡ getD p k 0
+  pub owner-same : getD s (ownersBase + k) 0 ≡ u → (a : ℕ) → a ≡ getD p k 0
       → compared (fieldAt t a) w ≡ compared (keyAt t p s k) (u ∷ w)
   unfolding keyAt nameAt
   owner-same e a z = rw z (sym (first-same _ _ _ _ e))
 
-pub none-ranked : (t p s : List ℕ) (b : ℕ) → b ≤ 224 → Ranked t p s b 0
+pub none-ranked : (t p s : List ℕ) (b : ℕ) → b ≤ namesSize → Ranked t p s b 0
 none-ranked t p s b h = record {
   low = omega arith;
   number = λ i g. absurd (omega arith);

@@ -7,6 +7,8 @@ use lib.ListN.{length, getD, set}
 use lib.Dec.{eqb, ltb, leb}
 use Rattle.grammar.specs.Rows.{fieldAt}
 use Rattle.grammar.specs.Draft.{Draft, unjoined, addUnit, addOutput, addInput, addFeed, addJoin}
+use Rattle.notes.specs.Layout.{outputsBase, inputsBase, linesBase, ownersBase, kindsBase, sourcesBase}
+use Rattle.notes.specs.Layout.{feedsBase, fedBase, placesSize, slotsSize}
 use Rattle.notes.specs.Listed.{listed}
 use Rattle.notes.specs.Ranks.{Ranked, Between}
 use Rattle.notes.specs.Notes.{draftOf}
@@ -28,13 +30,13 @@ pub record PutIn (s r : List ℕ) (a e v : ℕ) : Type 0 where
 -- in places q and slots r, which were p and s, the name behind n names from name b on begins at place a and has owner u
 pub record NameNoted (t p s q r : List ℕ) (b n a u : ℕ) : Type 0 where
   pub place : getD q (b + n) 0 ≡ a
-  pub owner : getD r (224 + (b + n)) 0 ≡ u
+  pub owner : getD r (ownersBase + (b + n)) 0 ≡ u
   pub ranked : Ranked t q r b (n + 1)
   pub places-long : length q ≡ length p
   pub slots-long : length r ≡ length s
   pub places-kept : (x e : ℕ) → ((i : ℕ) → x ≤ i → i < e → i ≡ b + n → ⊥) → Kept x e p q
   pub slots-kept : (x e : ℕ) → ((i : ℕ) → x ≤ i → i < e → b ≤ i → i ≤ b + n → ⊥)
-      → ((i : ℕ) → x ≤ i → i < e → i ≡ 224 + (b + n) → ⊥) → Kept x e s r
+      → ((i : ℕ) → x ≤ i → i < e → i ≡ ownersBase + (b + n) → ⊥) → Kept x e s r
 
 -- nothing is declared
 abbrev pub noEntry : Entry
@@ -55,21 +57,21 @@ unfoldable pub namedPlaces : List ℕ → ℕ → ℕ → Entry → List ℕ
 namedPlaces p b n e = set p (b + n) (e .begin)
 
 unfoldable pub namedSlots : List ℕ → ℕ → ℕ → Entry → List ℕ
-namedSlots s b n e = putIn (set s (224 + (b + n)) (e .owner)) (b + e .rank) (b + n) n
+namedSlots s b n e = putIn (set s (ownersBase + (b + n)) (e .owner)) (b + e .rank) (b + n) n
 
 -- input x, on line k
 unfoldable pub inputPlaces : List ℕ → ℕ → Entry → ℕ → List ℕ
-inputPlaces p x e k = set (namedPlaces p 128 x e) (224 + x) k
+inputPlaces p x e k = set (namedPlaces p inputsBase x e) (linesBase + x) k
 
 unfoldable pub inputSlots : List ℕ → ℕ → Entry → List ℕ
-inputSlots s x e = set (set (namedSlots s 128 x e) (448 + x) (e .kind)) (544 + x) 255
+inputSlots s x e = set (set (namedSlots s inputsBase x e) (kindsBase + x) (e .kind)) (sourcesBase + x) 255
 
 -- feed k
 unfoldable pub feedSlots : List ℕ → ℕ → Entry → List ℕ
-feedSlots s k e = set (set s (640 + 2 * k) (e .input)) (641 + 2 * k) (e .output)
+feedSlots s k e = set (set s (feedsBase + 2 * k) (e .input)) (fedBase + 2 * k) (e .output)
 
 unfoldable pub joinSlots : List ℕ → Entry → List ℕ
-joinSlots s e = set s (544 + e .input) (e .output)
+joinSlots s e = set s (sourcesBase + e .input) (e .output)
 
 abbrev pub moreUnits : Counts → Counts
 moreUnits c = record { units = c .units + 1; outputs = c .outputs; inputs = c .inputs; feeds = c .feeds }
@@ -96,13 +98,13 @@ countsWith c e =
 unfoldable pub placesWith : List ℕ → Counts → Entry → ℕ → List ℕ
 placesWith p c e k =
     cond (eqb (e .what) 1) (namedPlaces p 0 (c .units) e)
-    (cond (eqb (e .what) 2) (namedPlaces p 32 (c .outputs) e)
+    (cond (eqb (e .what) 2) (namedPlaces p outputsBase (c .outputs) e)
     (cond (eqb (e .what) 3) (inputPlaces p (c .inputs) e k) p))
 
 unfoldable pub slotsWith : List ℕ → Counts → Entry → List ℕ
 slotsWith s c e =
     cond (eqb (e .what) 1) (namedSlots s 0 (c .units) e)
-    (cond (eqb (e .what) 2) (namedSlots s 32 (c .outputs) e)
+    (cond (eqb (e .what) 2) (namedSlots s outputsBase (c .outputs) e)
     (cond (eqb (e .what) 3) (inputSlots s (c .inputs) e)
     (cond (eqb (e .what) 4) (feedSlots s (c .feeds) e)
     (cond (eqb (e .what) 5) (joinSlots s e) s))))
@@ -115,8 +117,8 @@ pub record Became (q r : List ℕ) (m : Counts) (q₁ r₁ : List ℕ) (m₁ : C
 
 -- there is room for what is declared
 pub record Room (p s : List ℕ) (c : Counts) (e : Entry) : Type 0 where
-  pub places-long : length p ≡ 320
-  pub slots-long : length s ≡ 896
+  pub places-long : length p ≡ placesSize
+  pub slots-long : length s ≡ slotsSize
   pub unit : e .what ≡ 1 → (c .units < 32) × (e .rank ≤ c .units)
   pub output : e .what ≡ 2 → (c .outputs < 96) × (e .rank ≤ c .outputs)
   pub input : e .what ≡ 3 → (c .inputs < 96) × (e .rank ≤ c .inputs)
@@ -129,10 +131,10 @@ pub data Declares (t p s : List ℕ) (c : Counts) (k : ℕ) : Entry → Draft �
       → Between t p s 0 (c .units) 0 (fieldAt t (e .begin)) (e .rank) (e .rank)
       → Declares t p s c k e (addUnit (draftOf t p s c) (fieldAt t (e .begin)))
   output : (e : Entry) → e .what ≡ 2 → c .outputs < 96
-      → Between t p s 32 (c .outputs) (e .owner) (fieldAt t (e .begin)) (e .rank) (e .rank)
+      → Between t p s outputsBase (c .outputs) (e .owner) (fieldAt t (e .begin)) (e .rank) (e .rank)
       → Declares t p s c k e (addOutput (draftOf t p s c) (record { owner = e .owner; name = fieldAt t (e .begin) }))
   input : (e : Entry) → e .what ≡ 3 → c .inputs < 96
-      → Between t p s 128 (c .inputs) (e .owner) (fieldAt t (e .begin)) (e .rank) (e .rank)
+      → Between t p s inputsBase (c .inputs) (e .owner) (fieldAt t (e .begin)) (e .rank) (e .rank)
       → Declares t p s c k e (addInput (draftOf t p s c)
       (record { owner = e .owner; name = fieldAt t (e .begin); kind = e .kind; source = unjoined; line = k }))
   feed : (e : Entry) → e .what ≡ 4 → e .rank ≡ 0 → c .feeds < 128

@@ -3,6 +3,42 @@ ghost use mathlib.Core.Path.{_≡_};
 ghost use Prim.Native.Nat.{_+_, _≤_, _<_};
 ghost use lib.ListN.{length};
 ghost use Rattle.notes.specs.Noted.{putIn, namedPlaces, namedSlots, Became, Room, moreUnits, moreOutputs, moreInputs, moreFeeds, inputPlaces, inputSlots, feedSlots, joinSlots, countsWith, placesWith, slotsWith};
+ghost use Rattle.notes.specs.Layout.{outputsBase, namesSize, placesSize, slotsSize};
+
+// Where the notes keep what: in places where each name begins, and then the line of each input.
+pub const UNITS: usize = 0;
+
+pub const OUTPUTS: usize = 32;
+
+pub const INPUTS: usize = 128;
+
+pub const LINES: usize = 224;
+
+pub const PLACES: usize = 320;
+
+// In slots the numbers of the names by rank, and then the owner of each name, kinds, sources, and feeds by pairs.
+pub const OWNERS: usize = 224;
+
+pub const OUTPUT_OWNERS: usize = 256;
+
+pub const INPUT_OWNERS: usize = 352;
+
+pub const KINDS: usize = 448;
+
+pub const SOURCES: usize = 544;
+
+pub const FEEDS: usize = 640;
+
+pub const FED: usize = 641;
+
+pub const SLOTS: usize = 896;
+
+// The source of an input that is not joined yet.
+pub const UNJOINED: u8 = 255;
+
+pub type Places = [u16; PLACES];
+
+pub type Slots = [u8; SLOTS];
 
 // How many of each have been noted.
 pub struct Counts {
@@ -24,9 +60,9 @@ pub struct Entry {
 }
 
 // Puts a number in at slot a: what stands there and above, up to slot e, goes one slot further.
-fn put_in(slots: &mut [u8; 896], a: usize, e: usize, number: u8)
-    requires { ⌜ (a ≤ e) × (e < 224) ⌝ }
-    requires { ⌜ length (now slots) ≡ 896 ⌝ }
+fn put_in(slots: &mut Slots, a: usize, e: usize, number: u8)
+    requires { ⌜ (a ≤ e) × (e < namesSize) ⌝ }
+    requires { ⌜ length (now slots) ≡ slotsSize ⌝ }
     ensures { λ r. ⌜ now (slots .exit) ≡ putIn (now (slots .entry)) a e number ⌝ }
 {
     let mut i = e;
@@ -38,53 +74,42 @@ fn put_in(slots: &mut [u8; 896], a: usize, e: usize, number: u8)
 }
 
 // Notes a name behind count names from name base on: where it begins, its owner and its rank.
-fn note_name(
-    places: &mut [u16; 320],
-    slots: &mut [u8; 896],
-    base: usize,
-    count: usize,
-    entry: Entry,
-)
-    requires { ⌜ (length (now places) ≡ 320) × (length (now slots) ≡ 896) ⌝ }
-    requires { ⌜ (base + count < 224) × (entry .rank ≤ count) ⌝ }
+fn note_name(places: &mut Places, slots: &mut Slots, base: usize, count: usize, entry: Entry)
+    requires { ⌜ (length (now places) ≡ placesSize) × (length (now slots) ≡ slotsSize) ⌝ }
+    requires { ⌜ (base + count < namesSize) × (entry .rank ≤ count) ⌝ }
     ensures { λ r. ⌜ now (places .exit) ≡ namedPlaces (now (places .entry)) base count entry ⌝ }
     ensures { λ r. ⌜ now (slots .exit) ≡ namedSlots (now (slots .entry)) base count entry ⌝ }
 {
     places[base + count] = entry.begin;
-    slots[224 + (base + count)] = entry.owner;
+    slots[OWNERS + (base + count)] = entry.owner;
     put_in(slots, base + entry.rank as usize, base + count, count as u8);
 }
 
 // One unit more.
-fn note_unit(places: &mut [u16; 320], slots: &mut [u8; 896], counts: Counts, entry: Entry) -> Counts
-    requires { ⌜ (length (now places) ≡ 320) × (length (now slots) ≡ 896) ⌝ }
+fn note_unit(places: &mut Places, slots: &mut Slots, counts: Counts, entry: Entry) -> Counts
+    requires { ⌜ (length (now places) ≡ placesSize) × (length (now slots) ≡ slotsSize) ⌝ }
     requires { ⌜ (counts .units < 32) × (entry .rank ≤ counts .units) ⌝ }
     ensures { λ r. ⌜ Became (now (places .exit)) (now (slots .exit)) r
         (namedPlaces (now (places .entry)) 0 (counts .units) entry)
         (namedSlots (now (slots .entry)) 0 (counts .units) entry) (moreUnits counts) ⌝ }
 {
     let units = counts.units;
-    note_name(places, slots, 0, units, entry);
+    note_name(places, slots, UNITS, units, entry);
     let mut more = counts;
     more.units = units + 1;
     more
 }
 
 // One output more.
-fn note_output(
-    places: &mut [u16; 320],
-    slots: &mut [u8; 896],
-    counts: Counts,
-    entry: Entry,
-) -> Counts
-    requires { ⌜ (length (now places) ≡ 320) × (length (now slots) ≡ 896) ⌝ }
+fn note_output(places: &mut Places, slots: &mut Slots, counts: Counts, entry: Entry) -> Counts
+    requires { ⌜ (length (now places) ≡ placesSize) × (length (now slots) ≡ slotsSize) ⌝ }
     requires { ⌜ (counts .outputs < 96) × (entry .rank ≤ counts .outputs) ⌝ }
     ensures { λ r. ⌜ Became (now (places .exit)) (now (slots .exit)) r
-        (namedPlaces (now (places .entry)) 32 (counts .outputs) entry)
-        (namedSlots (now (slots .entry)) 32 (counts .outputs) entry) (moreOutputs counts) ⌝ }
+        (namedPlaces (now (places .entry)) outputsBase (counts .outputs) entry)
+        (namedSlots (now (slots .entry)) outputsBase (counts .outputs) entry) (moreOutputs counts) ⌝ }
 {
     let outputs = counts.outputs;
-    note_name(places, slots, 32, outputs, entry);
+    note_name(places, slots, OUTPUTS, outputs, entry);
     let mut more = counts;
     more.outputs = outputs + 1;
     more
@@ -92,58 +117,58 @@ fn note_output(
 
 // One input more, declared on that line and not joined yet.
 fn note_input(
-    places: &mut [u16; 320],
-    slots: &mut [u8; 896],
+    places: &mut Places,
+    slots: &mut Slots,
     counts: Counts,
     entry: Entry,
     line: u16,
 ) -> Counts
-    requires { ⌜ (length (now places) ≡ 320) × (length (now slots) ≡ 896) ⌝ }
+    requires { ⌜ (length (now places) ≡ placesSize) × (length (now slots) ≡ slotsSize) ⌝ }
     requires { ⌜ (counts .inputs < 96) × (entry .rank ≤ counts .inputs) ⌝ }
     ensures { λ r. ⌜ Became (now (places .exit)) (now (slots .exit)) r
         (inputPlaces (now (places .entry)) (counts .inputs) entry line)
         (inputSlots (now (slots .entry)) (counts .inputs) entry) (moreInputs counts) ⌝ }
 {
     let inputs = counts.inputs;
-    note_name(places, slots, 128, inputs, entry);
-    places[224 + inputs] = line;
-    slots[448 + inputs] = entry.kind;
-    slots[544 + inputs] = 255;
+    note_name(places, slots, INPUTS, inputs, entry);
+    places[LINES + inputs] = line;
+    slots[KINDS + inputs] = entry.kind;
+    slots[SOURCES + inputs] = UNJOINED;
     let mut more = counts;
     more.inputs = inputs + 1;
     more
 }
 
 // One feed more.
-fn note_feed(slots: &mut [u8; 896], counts: Counts, entry: Entry) -> Counts
-    requires { ⌜ length (now slots) ≡ 896 ⌝ }
+fn note_feed(slots: &mut Slots, counts: Counts, entry: Entry) -> Counts
+    requires { ⌜ length (now slots) ≡ slotsSize ⌝ }
     requires { ⌜ counts .feeds < 128 ⌝ }
     ensures { λ r. ⌜ r ≡ moreFeeds counts ⌝ }
     ensures { λ r. ⌜ now (slots .exit) ≡ feedSlots (now (slots .entry)) (counts .feeds) entry ⌝ }
 {
     let feeds = counts.feeds;
-    slots[640 + 2 * feeds] = entry.input;
-    slots[641 + 2 * feeds] = entry.output;
+    slots[FEEDS + 2 * feeds] = entry.input;
+    slots[FED + 2 * feeds] = entry.output;
     let mut more = counts;
     more.feeds = feeds + 1;
     more
 }
 
 // An input joined to an output.
-fn note_join(slots: &mut [u8; 896], counts: Counts, entry: Entry) -> Counts
-    requires { ⌜ length (now slots) ≡ 896 ⌝ }
+fn note_join(slots: &mut Slots, counts: Counts, entry: Entry) -> Counts
+    requires { ⌜ length (now slots) ≡ slotsSize ⌝ }
     requires { ⌜ entry .input < 96 ⌝ }
     ensures { λ r. ⌜ r ≡ counts ⌝ }
     ensures { λ r. ⌜ now (slots .exit) ≡ joinSlots (now (slots .entry)) entry ⌝ }
 {
-    slots[544 + entry.input as usize] = entry.output;
+    slots[SOURCES + entry.input as usize] = entry.output;
     counts
 }
 
 // Notes what a line declares, and nothing else.
 pub fn note(
-    places: &mut [u16; 320],
-    slots: &mut [u8; 896],
+    places: &mut Places,
+    slots: &mut Slots,
     counts: Counts,
     entry: Entry,
     line: u16,

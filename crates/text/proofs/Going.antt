@@ -17,6 +17,7 @@ use Rattle.grammar.specs.Reading.{linesFrom, stopped}
 use Rattle.fields.specs.declared.Fields.{Fields}
 use Rattle.fields.specs.Spans.{fieldsAt}
 use Rattle.fields.specs.Promise.{fields-told}
+use Rattle.notes.specs.Layout.{outputsBase, inputsBase, placesSize, slotsSize}
 use Rattle.notes.specs.declared.Counts.{Counts}
 use Rattle.notes.specs.Listed.{listed}
 use Rattle.notes.specs.Notes.{draftOf, Fit, Stands}
@@ -79,7 +80,7 @@ pub record Going (t : List ℕ) (a : ℕ) (p s : List ℕ) (c : Counts) (at k : 
 abbrev pub noneYet : Counts
 noneYet = record { units = 0; outputs = 0; inputs = 0; feeds = 0 }
 
-pub none-fits : (t p s : List ℕ) → length p ≡ 320 → length s ≡ 896 → Fit t p s noneYet
+pub none-fits : (t p s : List ℕ) → length p ≡ placesSize → length s ≡ slotsSize → Fit t p s noneYet
 none-fits t p s h g = record {
   places-long = h;
   slots-long = g;
@@ -89,11 +90,11 @@ none-fits t p s h g = record {
   feeds-most = omega arith;
   units-ranked = none-ranked t p s 0 (omega arith);
   units-free = λ i z. absurd (omega arith);
-  outputs-ranked = none-ranked t p s 32 (omega arith);
-  inputs-ranked = none-ranked t p s 128 (omega arith);
+  outputs-ranked = none-ranked t p s outputsBase (omega arith);
+  inputs-ranked = none-ranked t p s inputsBase (omega arith);
 }
 
-pub going-starts : (t : List ℕ) (a : ℕ) (p s : List ℕ) → length p ≡ 320 → length s ≡ 896 → a ≤ length t
+pub going-starts : (t : List ℕ) (a : ℕ) (p s : List ℕ) → length p ≡ placesSize → length s ≡ slotsSize → a ≤ length t
     → Going t a p s noneYet a 2
 unfolding draftOf blank listed
 going-starts t a p s h g w =

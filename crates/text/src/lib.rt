@@ -10,6 +10,8 @@ mod walk;
 mod whole;
 
 use notes::Counts;
+use notes::PLACES;
+use notes::SLOTS;
 
 // A refusal's number with its place, or 0, and what has been noted.
 pub struct Noted {
@@ -40,8 +42,8 @@ pub fn read(text: &[u8], out: &mut [u8]) -> Answer
     ensures { λ r. ⌜ now (out .exit)
         ≡ fronted (reading (length (now (out .entry))) (now (text .entry)) .bytes) (now (out .entry)) ⌝ }
 {
-    let mut places = [0u16; 320];
-    let mut slots = [0u8; 896];
+    let mut places = [0u16; PLACES];
+    let mut slots = [0u8; SLOTS];
     let noted = noting::note(text, &mut places, &mut slots);
     let number = noted.number;
     if number != 0 {

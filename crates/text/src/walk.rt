@@ -6,14 +6,17 @@ ghost use Rattle.grammar.specs.Rows.{rows};
 ghost use Rattle.grammar.specs.Draft.{blank};
 ghost use Rattle.grammar.specs.Reading.{linesFrom};
 ghost use Rattle.text.specs.Walked.{Ended, Walked};
+ghost use Rattle.notes.specs.Layout.{placesSize, slotsSize};
 use crate::Noted;
 use crate::wide;
 use notes::Counts;
+use notes::Places;
+use notes::Slots;
 
 // Notes the lines from place a on, of which the first is line 2, until one is refused.
-pub fn walk(text: &[u8], places: &mut [u16; 320], slots: &mut [u8; 896], a: usize) -> Noted
+pub fn walk(text: &[u8], places: &mut Places, slots: &mut Slots, a: usize) -> Noted
     requires { ⌜ Ended (now text) ⌝ }
-    requires { ⌜ (length (now places) ≡ 320) × (length (now slots) ≡ 896) ⌝ }
+    requires { ⌜ (length (now places) ≡ placesSize) × (length (now slots) ≡ slotsSize) ⌝ }
     requires { ⌜ a ≤ length (now text) ⌝ }
     ensures { λ r. ⌜ Walked (now (text .entry)) (now (places .exit)) (now (slots .exit)) r (λ room. linesFrom room blank 2 (rows (drop a (now (text .entry))))) ⌝ }
 {

@@ -13,8 +13,8 @@ add-result c =
     omega (
       arith,
       c .before .seek .ensures .taken (c .if1 .taken) .0,
-      c .before .before .before .before .pre
-          .0 .low,
+      c .before .before .before
+          .before .pre .0 .low,
     )
 
 element-copy-out-result : tie.Need-element-copy-out-result
@@ -22,30 +22,37 @@ element-copy-out-result c =
     omega (
       arith,
       c .before .seek .ensures .taken (c .if1 .taken) .0,
-      c .before .before .before .before .pre
-          .0 .low,
+      c .before .before .before
+          .before .pre .0 .low,
     )
 
 cast-result : tie.Need-cast-result
 cast-result c =
-    omega (
-      arith,
-      c .before .before .before .before .before .pre .0 .number _ (c .before .before .seek
-          .ensures .taken (c .before .if1 .taken) .0),
-      c .before .before .before .before .before .pre .0 .low,
-    )
+    let ranked = c .before .before .before .before .before .pre .0 in
+    let spot = c .before .before .seek .ensures in
+    let here = c .before .if1 .taken in
+    omega (arith, ranked .number _ (spot .taken here .0), ranked .low)
 
 returns : tie.Need-returns
 returns c =
-    taken-least _ _ _ _ _ (c .before .before .before .before .before .pre .0) _ _ _ _ (c .before .before .seek
-    .ensures) (c .before .if1 .taken)
+    let ranked = c .before .before .before .before .before .pre .0 in
+    let spot = c .before .before .seek .ensures in
+    let here = c .before .if1 .taken in
+    taken-least _ _ _ _ _ ranked _ _ _ _ spot here
 
 returns-2 : tie.Need-returns-2
 returns-2 c =
-    free-least _ _ _ _ _ (c .before .before .before .before .pre .0) _ _ _ _ (c .before .seek .ensures) (c
-    .if1 .left)
+    let ranked = c .before .before .before .before .pre .0 in
+    let spot = c .before .seek .ensures in
+    free-least _ _ _ _ _ ranked _ _ _ _ spot (c .if1 .left)
 
 pub find-spec : {M : Type 1} → statement M
 find-spec =
     tie.close
-    (tie.spec seek-requires add-result element-copy-out-result cast-result returns returns-2)
+    (tie.spec
+    seek-requires
+    add-result
+    element-copy-out-result
+    cast-result
+    returns
+    returns-2)

@@ -20,7 +20,8 @@ sub-mid : tie.Need-sub-mid Inv-loop μ-loop
 sub-mid c = omega arith
 
 add-mid : tie.Need-add-mid Inv-loop μ-loop
-add-mid c = omega (arith, c .before .loop .inv .high, c .before .before .before .before .pre .0 .low)
+add-mid c =
+    omega (arith, c .before .loop .inv .high, c .before .before .before .before .pre .0 .low)
 
 add-k : tie.Need-add-k Inv-loop μ-loop
 add-k c = omega (arith, c .before .loop .inv .high, c .before .before .before .before .pre .0 .low)
@@ -31,50 +32,42 @@ element-copy-out-k c =
 
 cast-k : tie.Need-cast-k Inv-loop μ-loop
 cast-k c =
-    omega (
-      arith,
-      middle _ _ _ _ _ (c .before .before .before .before .before .pre .0) _ _ _ _ (c .before
-          .before .loop .lo + (c .before .before .loop .hi - c .before .before .loop .lo) / 2) (c .before .before
-          .loop .inv) (omega arith) (omega arith),
-      c .before .before .before .before .before .pre .0 .low,
-    )
+    let middle-one = middle _ _ _ _ _ (c .before .before .before .before .before .pre .0) _ _ _ _ (c
+    .before .before .loop .lo + (c .before .before .loop .hi - c .before .before .loop .lo) / 2) (c
+    .before .before .loop .inv) (omega arith) (omega arith) in
+    omega (arith, middle-one, c .before .before .before .before .before .pre .0 .low)
 
 add-compare-key : tie.Need-add-compare-key Inv-loop μ-loop
 add-compare-key c =
-    omega (
-      arith,
-      middle _ _ _ _ _ (c .before .before .before .before .before .pre .0) _ _ _ _ (c .before
-          .before .loop .lo + (c .before .before .loop .hi - c .before .before .loop .lo) / 2) (c .before .before
-          .loop .inv) (omega arith) (omega arith),
-      c .before .before .before .before .before .pre .0 .low,
-    )
+    let middle-one = middle _ _ _ _ _ (c .before .before .before .before .before .pre .0) _ _ _ _ (c
+    .before .before .loop .lo + (c .before .before .loop .hi - c .before .before .loop .lo) / 2) (c
+    .before .before .loop .inv) (omega arith) (omega arith) in
+    omega (arith, middle-one, c .before .before .before .before .before .pre .0 .low)
 
 compare-key-requires : tie.Need-compare-key-requires Inv-loop μ-loop
-compare-key-requires c κs = (
-  omega (
-    arith,
-    middle _ _ _ _ _ (c .before .before .before .before .before .pre .0) _ _ _ _ (c .before
-        .before .loop .lo + (c .before .before .loop .hi - c .before .before .loop .lo) / 2) (c .before .before
-        .loop .inv) (omega arith) (omega arith),
-    c .before .before .before .before .before .pre .0 .low,
-  ),
-  c
-      .before .before .before .before .before .pre .1,
-)
+compare-key-requires c κs =
+    let middle-one = middle _ _ _ _ _ (c .before .before .before .before .before .pre .0) _ _ _ _ (c
+    .before .before .loop .lo + (c .before .before .loop .hi - c .before .before .loop .lo) / 2) (c
+    .before .before .loop .inv) (omega arith) (omega arith) in (
+      omega (arith, middle-one, c .before .before .before .before .before .pre .0 .low),
+      c .before
+          .before .before .before .before .pre .1,
+    )
 
 returns : tie.Need-returns Inv-loop μ-loop
 returns c =
-    spot-taken _ _ _ _ _ (c .before .before .before .before .before .before .before .pre .0) _ _ _ _ _ (c
-    .before .before .before .before .loop .inv) (omega arith) (omega arith) _ (c .before .compare-key
-    .ensures) (c .if1 .taken)
+    let ranked = c .before .before .before .before .before .before .before .pre .0 in
+    let between = c .before .before .before .before .loop .inv in
+    let side = c .before .compare-key .ensures in
+    spot-taken _ _ _ _ _ ranked _ _ _ _ _ between (omega arith) (omega arith) _ side (c .if1 .taken)
 
 add-lo : tie.Need-add-lo Inv-loop μ-loop
 add-lo c =
     omega (
       arith,
       c .before .before .before .before .before .loop .inv .high,
-      c .before .before .before
-          .before .before .before .before .before .pre .0 .low,
+      c .before .before
+          .before .before .before .before .before .before .pre .0 .low,
     )
 
 loop-less : tie.Need-loop-less Inv-loop μ-loop
@@ -82,23 +75,27 @@ loop-less c = omega arith
 
 loop-again : tie.Need-loop-again Inv-loop μ-loop
 loop-again c =
-    upper-half _ _ _ _ _ (c .before .before .before .before .before .before .before .before .pre .0) _ _ _ _ _
-    (c .before .before .before .before .before .loop .inv) (omega arith) (omega arith) _ (c .before .before
-    .compare-key .ensures) (c .if2 .taken)
+    let ranked = c .before .before .before .before .before .before .before .before .pre .0 in
+    let between = c .before .before .before .before .before .loop .inv in
+    let side = c .before .before .compare-key .ensures in
+    upper-half _ _ _ _ _ ranked _ _ _ _ _ between (omega arith) (omega arith) _ side (c .if2 .taken)
 
 loop-less-2 : tie.Need-loop-less-2 Inv-loop μ-loop
 loop-less-2 c = omega arith
 
 loop-again-2 : tie.Need-loop-again-2 Inv-loop μ-loop
 loop-again-2 c =
-    lower-half _ _ _ _ _ (c .before .before .before .before .before .before .before .before .pre .0) _ _ _ _ _
-    (c .before .before .before .before .before .loop .inv) (omega arith) (omega arith) _ (c .before .before
-    .compare-key .ensures) (c .before .if1 .left) (c .if2 .left)
+    let ranked = c .before .before .before .before .before .before .before .before .pre .0 in
+    let between = c .before .before .before .before .before .loop .inv in
+    let side = c .before .before .compare-key .ensures in
+    lower-half _ _ _ _ _ ranked _ _ _ _ _ between (omega arith) (omega arith) _ side (c .before .if1
+    .left) (c .if2 .left)
 
 returns-2 : tie.Need-returns-2 Inv-loop μ-loop
 returns-2 c =
-    spot-free _ _ _ _ _ (c .before .before .before .before .pre .0) _ _ _ _ (c .before .loop .inv) (omega
-    arith)
+    let ranked = c .before .before .before .before .pre .0 in
+    let between = c .before .loop .inv in
+    spot-free _ _ _ _ _ ranked _ _ _ _ between (omega arith)
 
 pub seek-spec : {M : Type 1} → statement M
 seek-spec =

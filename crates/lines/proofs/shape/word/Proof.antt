@@ -25,33 +25,40 @@ wide-requires-2 c κs = search needs
 
 sub-result : tie.Need-sub-result
 sub-result c =
-    word-ends _ _ _ (c .before .before .before .before .before .pre .0) _ _ _ (c .before .before .before
-    .before .before .pre .1 .0) (c .before .before .before .before .before .pre .1 .1) (c .before .before
-    .wide .ensures) (c .wide2 .ensures) .0
+    let told = c .before .before .before .before .before .pre .0 in
+    let low = c .before .before .before .before .before .pre .1 .0 in
+    let has = c .before .before .before .before .before .pre .1 .1 in
+    let begin = c .before .before .wide .ensures in
+    let end = c .wide2 .ensures in
+    word-ends _ _ _ told _ _ _ low has begin end .0
 
 part-result-start : tie.Need-part-result-start
 part-result-start c =
-    word-ends _ _ _ (c .before .before .before .before .before .pre .0) _ _ _ (c .before .before .before
-    .before .before .pre .1 .0) (c .before .before .before .before .before .pre .1 .1) (c .before .before
-    .wide .ensures) (c .wide2 .ensures) .0
+    let told = c .before .before .before .before .before .pre .0 in
+    let low = c .before .before .before .before .before .pre .1 .0 in
+    let has = c .before .before .before .before .before .pre .1 .1 in
+    let begin = c .before .before .wide .ensures in
+    let end = c .wide2 .ensures in
+    word-ends _ _ _ told _ _ _ low has begin end .0
 
 part-result-end : tie.Need-part-result-end
 part-result-end c =
-    word-ends _ _ _ (c .before .before .before .before .before .pre .0) _ _ _ (c .before .before .before
-    .before .before .pre .1 .0) (c .before .before .before .before .before .pre .1 .1) (c .before .before
-    .wide .ensures) (c .wide2 .ensures) .1
+    let told = c .before .before .before .before .before .pre .0 in
+    let low = c .before .before .before .before .before .pre .1 .0 in
+    let has = c .before .before .before .before .before .pre .1 .1 in
+    let begin = c .before .before .wide .ensures in
+    let end = c .wide2 .ensures in
+    word-ends _ _ _ told _ _ _ low has begin end .1
 
 returns : tie.Need-returns
 unfolding stretch
-returns c = (
-  word-is _ _ _ (c .before .before .before .before .before .before .pre .0) _ _ _ (c .before .before
-      .before .before .before .before .pre .1 .0) (c .before .before .before .before .before .before .pre .1 .1)
-      (c .before .before .before .wide .ensures) (c .before .wide2 .ensures),
-  word-wordy _ _ _ (c .before
-      .before .before .before .before .before .pre .0) _ _ _ (c .before .before .before .before .before .before
-      .pre .1 .0) (c .before .before .before .before .before .before .pre .1 .1) (c .before .before .before
-      .wide .ensures) (c .before .wide2 .ensures),
-)
+returns c =
+    let told = c .before .before .before .before .before .before .pre .0 in
+    let low = c .before .before .before .before .before .before .pre .1 .0 in
+    let has = c .before .before .before .before .before .before .pre .1 .1 in
+    let begin = c .before .before .before .wide .ensures in
+    let end = c .before .wide2 .ensures in
+    (word-is _ _ _ told _ _ _ low has begin end, word-wordy _ _ _ told _ _ _ low has begin end)
 
 pub word-spec : {M : Type 1} → statement M
 word-spec =

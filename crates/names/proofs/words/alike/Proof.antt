@@ -12,8 +12,8 @@ common-requires c κs = search needs
 
 returns : tie.Need-returns
 returns c =
-    in-common _ _ _ (c .before .before .before .before .pre) _ _ (c .before .stretch .ensures) (c .common
-    .ensures)
+    in-common _ _ _ (c .before .before .before .before .pre) _ _ (c .before .stretch .ensures) (c
+    .common .ensures)
 
 pub alike-spec : {M : Type 1} → statement M
 alike-spec = tie.close (tie.spec stretch-requires common-requires returns)

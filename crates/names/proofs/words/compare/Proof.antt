@@ -17,8 +17,11 @@ is-empty-requires c κs = search needs
 
 returns : tie.Need-returns
 returns c =
-    sym (c .before .before .before .alike .ensures .alike .left ∙ ends-before _ _ _ _ (c .before .before .if1
-    .taken) (sym (c .before .is-empty .ensures) ∙ c .if2 .taken))
+    let common = c .before .before .before .alike .ensures in
+    let left = common .alike .left in
+    let inside = c .before .before .if1 .taken in
+    let ended = sym (c .before .is-empty .ensures) ∙ c .if2 .taken in
+    sym (left ∙ ends-before _ _ _ _ inside (ended))
 
 add-if3 : tie.Need-add-if3
 add-if3 c = omega (arith, c .before .before .before .alike .ensures .low)
@@ -32,19 +35,24 @@ shared-slice-read-if3-2 c = search needs
 
 returns-2 : tie.Need-returns-2
 returns-2 c =
-    sym (c .before .before .before .before .before .before .alike .ensures .alike .left ∙ lower-byte _ _ _ _
-    (c .before .before .before .before .before .if1 .taken) (sym (c .before .before .before .before .is-empty
-    .ensures) ∙ c .before .before .before .if2 .left) (c .if3 .taken))
+    let common = c .before .before .before .before .before .before .alike .ensures in
+    let left = common .alike .left in
+    let inside = c .before .before .before .before .before .if1 .taken in
+    let goes = sym (c .before .before .before .before .is-empty .ensures) ∙ c .before .before
+    .before .if2 .left in
+    sym (left ∙ lower-byte _ _ _ _ inside goes (c .if3 .taken))
 
 returns-3 : tie.Need-returns-3
 returns-3 c =
-    sym (c .before .before .before .before .before .before .alike .ensures .alike .left ∙ higher-byte _ _ _ _
-    (c .before .before .before .before .before .if1 .taken) (sym (c .before .before .before .before .is-empty
-    .ensures) ∙ c .before .before .before .if2 .left) (omega (
+    let common = c .before .before .before .before .before .before .alike .ensures in
+    let left = common .alike .left in
+    let inside = c .before .before .before .before .before .if1 .taken in
+    let goes = sym (c .before .before .before .before .is-empty .ensures) ∙ c .before .before
+    .before .if2 .left in
+    sym (left ∙ higher-byte _ _ _ _ inside goes (omega (
       arith,
-      c .before .before .before .before .before
-          .before .alike .ensures .differ (c .before .before .before .before .before .if1 .taken) (is-open _ _ (sym
-          (c .before .before .before .before .is-empty .ensures) ∙ c .before .before .before .if2 .left) .inside),
+      common .differ inside (is-open _ _
+          goes .inside),
     )))
 
 add-is-empty-2 : tie.Need-add-is-empty-2
@@ -55,13 +63,17 @@ is-empty-requires-2 c κs = search needs
 
 returns-4 : tie.Need-returns-4
 returns-4 c =
-    sym (c .before .before .before .alike .ensures .alike .left ∙ both-end _ _ _ _ (c .before .before .if1
-    .left) (sym (c .before .is-empty2 .ensures) ∙ c .if4 .taken))
+    let common = c .before .before .before .alike .ensures in
+    let left = common .alike .left in
+    let past = c .before .before .if1 .left in
+    sym (left ∙ both-end _ _ _ _ past (sym (c .before .is-empty2 .ensures) ∙ c .if4 .taken))
 
 returns-5 : tie.Need-returns-5
 returns-5 c =
-    sym (c .before .before .before .alike .ensures .alike .left ∙ goes-on _ _ _ _ (c .before .before .if1
-    .left) (sym (c .before .is-empty2 .ensures) ∙ c .if4 .left))
+    let common = c .before .before .before .alike .ensures in
+    let left = common .alike .left in
+    let past = c .before .before .if1 .left in
+    sym (left ∙ goes-on _ _ _ _ past (sym (c .before .is-empty2 .ensures) ∙ c .if4 .left))
 
 pub compare-spec : {M : Type 1} → statement M
 compare-spec =
