@@ -1,6 +1,7 @@
 #!/usr/bin/env python3
 """Holds the contracts of the public functions, as the toolchain stored them beside each proved crate:
 crates/NAME/proofs/Settled.antt states of each that it settles a call, and docs/CONTRACTS.md quotes each clause.
+One that asks something of its caller is stated to settle a call where that holds, and docs/PROMISES.md lists it.
 `tests/contracts.py --write` writes the page."""
 import json
 import re
@@ -9,9 +10,10 @@ from pathlib import Path
 
 ROOT = Path(__file__).resolve().parent.parent
 PAGE = ROOT / "docs/CONTRACTS.md"
+PROMISES = ROOT / "docs/PROMISES.md"
 HEADING = """# The contract of each public function
 
-Public is whatever another crate or C can call. Each clause is quoted as the toolchain read it, with the definitions it cites; the page is written by `tests/contracts.py --write` and held to the proved crates by the gate. `crates/NAME/proofs/Settled.antt` proves of each contract that it asks nothing and permits one answer, with every lent byte. [PROMISES.md](PROMISES.md) says each in words.
+Public is whatever another crate or C can call. Each clause is quoted as the toolchain read it, with the definitions it cites; the page is written by `tests/contracts.py --write` and held to the proved crates by the gate. `crates/NAME/proofs/Settled.antt` proves of each contract that it asks nothing and permits one answer, with every lent byte; of the few that ask something, that they permit one answer where it holds. [PROMISES.md](PROMISES.md) says each in words, and lists those that ask.
 """
 
 
@@ -48,10 +50,10 @@ def lacking(crate, path, text):
     elif kinds := re.search(rf"^{base}\.Kinds as ([\w-]+)$", text, re.M):
         name = re.escape(kinds[1])
         at = rf"{name}\.ps {name}\.r {name}-says\.Asked {name}-says\.Learnt"
-        wanted = [
-            rf"^{base}\.Reads as {name}-says$",
-            rf"^pub {name}-settled : (Settles {at}|SettlesSeen {at} \(λ κs r\. now r\))$",
-        ]
+        settled = rf"(Settles {at}|SettlesSeen {at} \(λ κs r\. now r\))"
+        if asks(crate, path):
+            settled = rf"SettlesWhere {at} {seen(crate, path)}"
+        wanted = [rf"^{base}\.Reads as {name}-says$", rf"^pub {name}-settled : {settled}$"]
     else:
         return True
     return not all(re.search(pattern, text, re.M) for pattern in wanted)
@@ -64,6 +66,29 @@ def stored(crate, path):
     while "ensures" not in contract:
         contract = next(part for part in contract.values() if isinstance(part, dict))
     return contract
+
+
+def asks(crate, path):
+    """Whether a function asks something of its caller."""
+    return bool(stored(crate, path)["requires"])
+
+
+def listed():
+    """The functions that the page of promises lists as asking something, each with the fields of its answer left open."""
+    part = PROMISES.read_text(encoding="utf-8").partition("\n## What asks")[2].partition("\n## ")[0]
+    entries = re.findall(r"^- \*\*`(\w+(?:::\w+)+)`\*\*(.*)$", part, re.M)
+    return {name: re.findall(r"leaves `(\w+)` open", text) for name, text in entries}
+
+
+def seen(crate, path):
+    """What of an answer is stated to be one: all of it, or the fields that are not listed as left open."""
+    left = listed().get("::".join((crate, *path)), [])
+    if not left:
+        return r"\(λ κs r\. r\)"
+    interface = (ROOT / f"target/rlib/{crate}.rlib/interface/lang/src/lib.rt").read_text(encoding="utf-8")
+    answer = re.search(rf"fn {path[-1]} \(.*\) -> (\w+) ;", interface)[1]
+    fields = re.findall(r"pub (\w+) :", re.search(rf"struct {answer} {{(.*)}}", interface)[1])
+    return r"{B = [^{}]*} \(λ κs r\. \(" + ", ".join(rf"r \.{field}" for field in fields if field not in left) + r"\)\)"
 
 
 def cited(clauses, uses):
@@ -110,6 +135,9 @@ def main():
             functions.append((crate, path))
             if lacking(crate, path, text):
                 failed.append(f"{crate}: {'.'.join(path)} is not stated in Settled.antt")
+    asking = {"::".join((crate, *path)) for crate, path in functions if asks(crate, path)}
+    failed += [f"docs/PROMISES.md lists {name} as asking, or the function asks: only one of the two"
+               for name in sorted(asking ^ set(listed()))]
     if sys.argv[1:] == ["--write"]:
         PAGE.write_text(page(functions), encoding="utf-8")
     if not PAGE.exists() or PAGE.read_text(encoding="utf-8") != page(functions):

@@ -7,7 +7,7 @@ sys.dont_write_bytecode = True
 from sources import CRATES, rows  # noqa: E402
 
 COLUMNS = 100
-LATER = {"fields", "notes", "scan", "text"}  # crates that are not held yet
+LATER = {"fields", "lines", "names", "notes", "scan", "text"}  # crates that are not held yet
 
 
 def counted():

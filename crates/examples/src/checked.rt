@@ -1,5 +1,5 @@
 // Tables checked: each number from 1 to 7 where a check first fails, and what is just taken.
-use crate::lines::gives;
+use crate::shown::gives;
 use crate::tables::A;
 use crate::tables::a_with;
 use crate::tables::c_fed;

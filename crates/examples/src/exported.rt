@@ -1,9 +1,9 @@
 // What C calls on packed tables: for the box 256 times the number plus the place.
-use crate::lines::put_bytes;
-use crate::lines::put_gives;
-use crate::lines::put_left;
-use crate::lines::put_name;
-use crate::lines::write_line;
+use crate::shown::put_bytes;
+use crate::shown::put_gives;
+use crate::shown::put_left;
+use crate::shown::put_name;
+use crate::shown::write_line;
 use crate::tables::A;
 use crate::tables::c_fed;
 use desk::oorlichday_precedes;

@@ -1,8 +1,8 @@
 // Orders judged.
-use crate::lines::put_answer;
-use crate::lines::put_bytes;
-use crate::lines::put_name;
-use crate::lines::write_line;
+use crate::shown::put_answer;
+use crate::shown::put_bytes;
+use crate::shown::put_name;
+use crate::shown::write_line;
 use crate::tables::A;
 use crate::tables::ALONE;
 use crate::tables::C;

@@ -2,10 +2,10 @@
 mod checked;
 mod exported;
 mod judged;
-mod lines;
 mod ordered;
 mod preceding;
 mod records;
+mod shown;
 mod tables;
 mod taken;
 mod texts;

@@ -1,5 +1,5 @@
 // Orders and cycles, and what can be placed. Each buffer is lent full of 99, and printed whole.
-use crate::lines::leaves;
+use crate::shown::leaves;
 use crate::tables::A;
 use crate::tables::A_REACTIVE;
 use crate::tables::ALONE;

@@ -1,6 +1,6 @@
 // Which call is a direct predecessor of which.
-use crate::lines::put_name;
-use crate::lines::write_line;
+use crate::shown::put_name;
+use crate::shown::write_line;
 use crate::tables::A;
 use crate::tables::C;
 use crate::tables::G;

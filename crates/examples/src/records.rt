@@ -3,7 +3,7 @@ ghost use mathlib.Core.Path.{_≡_};
 ghost use Rattle.table.specs.Packed.{shapeOf};
 ghost use Rattle.judging.specs.Verdict.{verdictOf};
 ghost use Rattle.judge.specs.Records.{allNumbered};
-use crate::lines::gives;
+use crate::shown::gives;
 use crate::tables::A;
 use crate::tables::C;
 use crate::tables::G;

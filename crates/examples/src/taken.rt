@@ -1,7 +1,7 @@
 // Judged runs, call by call: the number of each answer, and the calls that are done after it.
-use crate::lines::put_gives;
-use crate::lines::put_name;
-use crate::lines::write_line;
+use crate::shown::put_gives;
+use crate::shown::put_name;
+use crate::shown::write_line;
 use crate::tables::A;
 use crate::tables::BOTH_KINDS;
 use crate::tables::a_with;

@@ -1,6 +1,6 @@
 // What C calls on texts: table A's, refused ones, and buffers that are too small.
-use crate::lines::gives;
-use crate::lines::leaves;
+use crate::shown::gives;
+use crate::shown::leaves;
 use desk::Reading;
 use desk::oorlichday_list;
 use desk::oorlichday_read;

@@ -6,6 +6,8 @@ use native.Mathlib.Omega.{arith}
 use lib.ListN.{getD, set}
 use lib.Seq.{getD-set-other}
 use Rattle.grammar.specs.Rows.{fieldAt}
+use Rattle.notes.specs.Layout.{outputsBase, inputsBase, linesBase, ownersBase, outputOwners, inputOwners}
+use Rattle.notes.specs.Layout.{kindsBase, sourcesBase, feedsBase, fedBase}
 use Rattle.notes.specs.Ranks.{nameAt, keyAt, rankAt, Ranked}
 use Rattle.notes.specs.Listed.{listed, listed-same}
 use Rattle.notes.specs.Noted.{Kept}
@@ -24,41 +26,41 @@ module _ (t p s q r : List ℕ) where
   unfolding nameAt
   units-kept n a = listed-same (nameAt t q) (nameAt t p) n (λ i h. ap (fieldAt t) (a .at i (omega arith) h))
 
-  pub output-kept : (y : ℕ) → Kept (32 + y) (33 + y) p q → Kept (256 + y) (257 + y) s r → outputAt t q r y ≡ outputAt t p s y
+  pub output-kept : (y : ℕ) → Kept (outputsBase + y) (outputsBase + y + 1) p q → Kept (outputOwners + y) (outputOwners + y + 1) s r → outputAt t q r y ≡ outputAt t p s y
   unfolding outputAt nameAt
   output-kept y a b =
-      rw (a .at (32 + y) (omega arith) (omega arith), b .at (256 + y) (omega arith) (omega arith))
+      rw (a .at (outputsBase + y) (omega arith) (omega arith), b .at (outputOwners + y) (omega arith) (omega arith))
 
-  pub outputs-kept : (n : ℕ) → Kept 32 (32 + n) p q → Kept 256 (256 + n) s r
+  pub outputs-kept : (n : ℕ) → Kept outputsBase (outputsBase + n) p q → Kept outputOwners (outputOwners + n) s r
       → listed (outputAt t q r) n ≡ listed (outputAt t p s) n
   outputs-kept n a b = listed-same (outputAt t q r) (outputAt t p s) n (λ y h.
       output-kept y
       (record { at = λ i k g. a .at i (omega arith) (omega arith) })
       (record { at = λ i k g. b .at i (omega arith) (omega arith) }))
 
-  pub inputs-kept : (n : ℕ) → Kept 128 (128 + n) p q → Kept 224 (224 + n) p q → Kept 352 (352 + n) s r
-      → Kept 448 (448 + n) s r → Kept 544 (544 + n) s r → listed (inputAt t q r) n ≡ listed (inputAt t p s) n
+  pub inputs-kept : (n : ℕ) → Kept inputsBase (inputsBase + n) p q → Kept linesBase (linesBase + n) p q → Kept inputOwners (inputOwners + n) s r
+      → Kept kindsBase (kindsBase + n) s r → Kept sourcesBase (sourcesBase + n) s r → listed (inputAt t q r) n ≡ listed (inputAt t p s) n
   unfolding inputAt nameAt
   inputs-kept n a b c d e = listed-same (inputAt t q r) (inputAt t p s) n (λ x h.
       rw (
-        a .at (128 + x) (omega arith) (omega arith),
-        b .at (224 + x) (omega arith) (omega arith),
-        c .at (352 + x) (omega arith) (omega arith),
-        d .at (448 + x) (omega arith) (omega arith),
-        e .at (544 + x) (omega arith) (omega arith),
+        a .at (inputsBase + x) (omega arith) (omega arith),
+        b .at (linesBase + x) (omega arith) (omega arith),
+        c .at (inputOwners + x) (omega arith) (omega arith),
+        d .at (kindsBase + x) (omega arith) (omega arith),
+        e .at (sourcesBase + x) (omega arith) (omega arith),
       ))
 
-  pub feeds-kept : (n : ℕ) → Kept 640 (640 + 2 * n) s r → listed (feedAt r) n ≡ listed (feedAt s) n
+  pub feeds-kept : (n : ℕ) → Kept feedsBase (feedsBase + 2 * n) s r → listed (feedAt r) n ≡ listed (feedAt s) n
   unfolding feedAt
   feeds-kept n a = listed-same (feedAt r) (feedAt s) n (λ k h.
-      rw (a .at (640 + 2 * k) (omega arith) (omega arith), a .at (641 + 2 * k) (omega arith) (omega arith)))
+      rw (a .at (feedsBase + 2 * k) (omega arith) (omega arith), a .at (fedBase + 2 * k) (omega arith) (omega arith)))
 
   -- a key of a name that is kept
-  key-kept : (k : ℕ) → getD q k 0 ≡ getD p k 0 → getD r (224 + k) 0 ≡ getD s (224 + k) 0 → keyAt t q r k ≡ keyAt t p s k
+  key-kept : (k : ℕ) → getD q k 0 ≡ getD p k 0 → getD r (ownersBase + k) 0 ≡ getD s (ownersBase + k) 0 → keyAt t q r k ≡ keyAt t p s k
   unfolding keyAt nameAt
   key-kept k a b = rw (a, b)
 
-  pub ranked-kept : (b n : ℕ) → Kept b (b + n) p q → Kept b (b + n) s r → Kept (224 + b) (224 + (b + n)) s r
+  pub ranked-kept : (b n : ℕ) → Kept b (b + n) p q → Kept b (b + n) s r → Kept (ownersBase + b) (ownersBase + (b + n)) s r
       → Ranked t p s b n → Ranked t q r b n
   ranked-kept b n x y z f = record {
     low = f .low;
@@ -71,7 +73,7 @@ module _ (t p s q r : List ℕ) where
       slot i h = y .at (b + i) (omega arith) (omega arith)
 
       key : (k : ℕ) → k < n → keyAt t q r (b + k) ≡ keyAt t p s (b + k)
-      key k h = key-kept (b + k) (x .at (b + k) (omega arith) (omega arith)) (z .at (224 + (b + k)) (omega arith) (omega arith))
+      key k h = key-kept (b + k) (x .at (b + k) (omega arith) (omega arith)) (z .at (ownersBase + (b + k)) (omega arith) (omega arith))
 
       at : (i : ℕ) → i < n → rankAt t q r b i ≡ rankAt t p s b i
       at i h = ap (λ k. keyAt t q r (b + k)) (slot i h) ∙ key (getD s (b + i) 0) (f .number i h)

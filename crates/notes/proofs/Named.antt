@@ -8,42 +8,43 @@ use native.Mathlib.Decide.{decLt, ℕ-discrete}
 use lib.ListN.{length, getD, set, length-set}
 use lib.Seq.{getD-set-same, getD-set-other}
 use Rattle.grammar.specs.Rows.{fieldAt}
+use Rattle.notes.specs.Layout.{namesSize, ownersBase, placesSize, slotsSize}
 use Rattle.notes.specs.Compared.{compared}
 use Rattle.notes.specs.Ranks.{nameAt, keyAt, rankAt, Ranked, Between}
-use Rattle.notes.specs.Noted.{PutIn, Noted}
+use Rattle.notes.specs.Noted.{PutIn, NameNoted}
 use Rattle.notes.proofs.Ordered.{after-before}
 use Rattle.notes.proofs.Kept.{kept-all, kept-set, ranked-kept}
 
 module _ (t p s : List ℕ) (b n a u i : ℕ) (f : Ranked t p s b n) (o : Between t p s b n u (fieldAt t a) i i)
-    (room : b + n < 224) (long : length p ≡ 320) (wide : length s ≡ 896) where
+    (room : b + n < namesSize) (long : length p ≡ placesSize) (wide : length s ≡ slotsSize) where
   abbrev q : List ℕ
   q = set p (b + n) a
 
   abbrev owned : List ℕ
-  owned = set s (224 + (b + n)) u
+  owned = set s (ownersBase + (b + n)) u
 
   module _ (r : List ℕ) (put : PutIn owned r (b + i) (b + n) n) where
     -- ---- the slots
 
-    owner-is : getD r (224 + (b + n)) 0 ≡ u
+    owner-is : getD r (ownersBase + (b + n)) 0 ≡ u
     owner-is =
-        put .above (224 + (b + n)) (omega arith) ∙ getD-set-same s (224 + (b + n)) u 0 (omega arith)
+        put .above (ownersBase + (b + n)) (omega arith) ∙ getD-set-same s (ownersBase + (b + n)) u 0 (omega arith)
 
-    owner-kept : (k : ℕ) → k < n → getD r (224 + (b + k)) 0 ≡ getD s (224 + (b + k)) 0
+    owner-kept : (k : ℕ) → k < n → getD r (ownersBase + (b + k)) 0 ≡ getD s (ownersBase + (b + k)) 0
     owner-kept k h =
-        put .above (224 + (b + k)) (omega arith)
-        ∙ getD-set-other s (224 + (b + n)) (224 + (b + k)) u 0 (λ e. omega arith)
+        put .above (ownersBase + (b + k)) (omega arith)
+        ∙ getD-set-other s (ownersBase + (b + n)) (ownersBase + (b + k)) u 0 (λ e. omega arith)
 
     slot-below : (j : ℕ) → j < i → getD r (b + j) 0 ≡ getD s (b + j) 0
     slot-below j h =
         put .below (b + j) (omega arith)
-        ∙ getD-set-other s (224 + (b + n)) (b + j) u 0 (λ e. omega (arith, o .high))
+        ∙ getD-set-other s (ownersBase + (b + n)) (b + j) u 0 (λ e. omega (arith, o .high))
 
     slot-moved : (j : ℕ) → i ≤ j → j < n → getD r (b + (j + 1)) 0 ≡ getD s (b + j) 0
     slot-moved j h g =
         ap (λ k. getD r k 0) (let e : b + (j + 1) ≡ b + j + 1 = omega arith in e)
         ∙ put .moved (b + j) (omega arith) (omega arith)
-        ∙ getD-set-other s (224 + (b + n)) (b + j) u 0 (λ e. omega arith)
+        ∙ getD-set-other s (ownersBase + (b + n)) (b + j) u 0 (λ e. omega arith)
 
     -- ---- the keys
 
@@ -127,33 +128,33 @@ module _ (t p s : List ℕ) (b n a u i : ℕ) (f : Ranked t p s b n) (o : Betwee
           | no h ↦ (j + 1, omega arith, slot-moved j (omega arith) g ∙ e)
         ]
 
-    pub name-noted : Noted t p s q r b n a u
+    pub name-noted : NameNoted t p s q r b n a u
     name-noted = record {
       place = getD-set-same p (b + n) a 0 (omega arith);
       owner = owner-is;
       ranked = new-ranked;
       places-long = length-set p (b + n) a;
-      slots-long = put .long ∙ length-set s (224 + (b + n)) u;
+      slots-long = put .long ∙ length-set s (ownersBase + (b + n)) u;
       places-kept = λ x e z. kept-set (b + n) a kept-all z;
       slots-kept = λ x e y z. record { at = λ j h g. kept j (y j h g) (z j h g) };
     }
       where
-        kept : (j : ℕ) → (b ≤ j → j ≤ b + n → ⊥) → (j ≡ 224 + (b + n) → ⊥) → getD r j 0 ≡ getD s j 0
+        kept : (j : ℕ) → (b ≤ j → j ≤ b + n → ⊥) → (j ≡ ownersBase + (b + n) → ⊥) → getD r j 0 ≡ getD s j 0
         kept j y z = elim (decLt j (b + i)) [
-          | yes h ↦ put .below j h ∙ getD-set-other s (224 + (b + n)) j u 0 z
+          | yes h ↦ put .below j h ∙ getD-set-other s (ownersBase + (b + n)) j u 0 z
           | no h ↦ put .above j (elim (decLt (b + n) j) [
             | yes g ↦ g
             | no g ↦ absurd (y (omega arith) (omega arith))
-          ]) ∙ getD-set-other s (224 + (b + n)) j u 0 z
+          ]) ∙ getD-set-other s (ownersBase + (b + n)) j u 0 z
         ]
 
 -- the names of another kind keep their ranks
-pub others-ranked : (t p s q r : List ℕ) (b n a u d m : ℕ) → Noted t p s q r b n a u → b + n < 224
+pub others-ranked : (t p s q r : List ℕ) (b n a u d m : ℕ) → NameNoted t p s q r b n a u → b + n < namesSize
     → ((i : ℕ) → d ≤ i → i < d + m → b ≤ i → i ≤ b + n → ⊥) → Ranked t p s d m → Ranked t q r d m
 others-ranked t p s q r b n a u d m o room apart f =
     ranked-kept t p s q r d m
     (o .places-kept d (d + m) (λ i h g e. apart i h g (omega arith) (omega arith)))
     (o .slots-kept d (d + m) apart (λ i h g e. omega (arith, f .low)))
-    (o .slots-kept (224 + d) (224 + (d + m)) (λ i h g x y. omega arith)
+    (o .slots-kept (ownersBase + d) (ownersBase + (d + m)) (λ i h g x y. omega arith)
     (λ i h g e. apart (b + n) (omega arith) (omega arith) (omega arith) (omega arith)))
     f

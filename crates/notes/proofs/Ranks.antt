@@ -1,6 +1,6 @@
 -- A search by halves through the ranks, and the ranks with one name more.
 use Prim.Native.Nat.{ℕ, _+_, _-_, _≤_, _<_}
-use mathlib.Core.Path.{_≡_, sym, ap, _∙_}
+use mathlib.Core.Path.{_≡_, refl, sym, ap, _∙_}
 use mathlib.Core.Logic.{inl, inr}
 use mathlib.Core.Bool.{Bool, true, false, not}
 use mathlib.Core.List.{List, _∷_}
@@ -14,6 +14,7 @@ use Rattle.search.specs.Truth.{T-and, and-T, either, is-true, eq-true}
 use Rattle.grammar.specs.Words.{same}
 use Rattle.grammar.specs.Same.{same-true, same-self}
 use Rattle.grammar.specs.Rows.{fieldAt}
+use Rattle.notes.specs.Layout.{namesSize, ownersBase}
 use Rattle.notes.specs.Compared.{compared}
 use Rattle.notes.specs.Ranks.{nameAt, keyAt, rankAt, Ranked, Between, Spotted}
 use Rattle.notes.specs.Notes.{isNamed, named}
@@ -25,33 +26,33 @@ module _ (t p s : List ℕ) (u : ℕ) (w : List ℕ) (k : ℕ) where
   pub key-named : keyAt t p s k ≡ u ∷ w → T (isNamed t p s u w k)
   unfolding keyAt isNamed
   key-named e =
-      and-T (eqb (getD s (224 + k) 0) u) (same (nameAt t p k) w)
-      (eq-true (getD s (224 + k) 0) u (ap (λ l. getD l 0 0) e))
+      and-T (eqb (getD s (ownersBase + k) 0) u) (same (nameAt t p k) w)
+      (eq-true (getD s (ownersBase + k) 0) u (ap (λ l. getD l 0 0) e))
       (rw (ap (λ l. lib.ListN.drop 1 l) e) (same-self w))
 
   pub named-key : T (isNamed t p s u w k) → keyAt t p s k ≡ u ∷ w
   unfolding keyAt isNamed
   named-key h =
-      let (a, e) = T-and (eqb (getD s (224 + k) 0) u) (same (nameAt t p k) w) h in
-      rw (eqb-true (getD s (224 + k) 0) u (is-true _ a), same-true (nameAt t p k) w e)
+      let (a, e) = T-and (eqb (getD s (ownersBase + k) 0) u) (same (nameAt t p k) w) h in
+      rw (eqb-true (getD s (ownersBase + k) 0) u (is-true _ a), same-true (nameAt t p k) w e)
 
 -- ---- a key compared: the owner first
 
 module _ (t p s : List ℕ) (k u : ℕ) (w : List ℕ) where
-  pub owner-before : getD s (224 + k) 0 < u → 0 ≡ compared (keyAt t p s k) (u ∷ w)
+  pub owner-before : getD s (ownersBase + k) 0 < u → 0 ≡ compared (keyAt t p s k) (u ∷ w)
   unfolding keyAt
   owner-before h = sym (first-before _ _ _ _ h)
 
-  pub owner-after : u < getD s (224 + k) 0 → 2 ≡ compared (keyAt t p s k) (u ∷ w)
+  pub owner-after : u < getD s (ownersBase + k) 0 → 2 ≡ compared (keyAt t p s k) (u ∷ w)
   unfolding keyAt
   owner-after h = sym (first-after _ _ _ _ h)
 
-  pub owner-same : getD s (224 + k) 0 ≡ u → (a : ℕ) → a ≡ getD p k 0
+  pub owner-same : getD s (ownersBase + k) 0 ≡ u → (a : ℕ) → a ≡ getD p k 0
       → compared (fieldAt t a) w ≡ compared (keyAt t p s k) (u ∷ w)
   unfolding keyAt nameAt
   owner-same e a z = rw z (sym (first-same _ _ _ _ e))
 
-pub none-ranked : (t p s : List ℕ) (b : ℕ) → b ≤ 224 → Ranked t p s b 0
+pub none-ranked : (t p s : List ℕ) (b : ℕ) → b ≤ namesSize → Ranked t p s b 0
 none-ranked t p s b h = record {
   low = omega arith;
   number = λ i g. absurd (omega arith);
@@ -176,3 +177,42 @@ module _ (t p s : List ℕ) (b n : ℕ) (f : Ranked t p s b n) (u : ℕ) (w : Li
             | yes m ↦ omega (arith, o .free y .before j m)
             | no m ↦ omega (arith, o .free y .after j (omega arith) g)
           ]
+
+  -- ---- one spot at most
+
+  -- what is open at one rank alone is open at no other
+  pub open-one : (i j : ℕ) → Between t p s b n u w i i → Between t p s b n u w j j → i ≡ j
+  open-one i j o v = elim (decLt i j) [
+    | yes h ↦ absurd (omega (arith, v .before i h, o .after i (omega arith) (omega (arith, v .high))))
+    | no h ↦ elim (decLt j i) [
+      | yes g ↦ absurd (omega (arith, o .before j g, v .after j (omega arith) (omega (arith, o .high))))
+      | no g ↦ omega arith
+    ]
+  ]
+
+  -- a taken rank is open nowhere
+  shut-open : (i j : ℕ) → (i < n) × (beside i ≡ 1) → Between t p s b n u w j j → ⊥
+  shut-open i j (l, e) o = elim (decLt i j) [
+    | yes h ↦ omega (arith, o .before i h)
+    | no h ↦ omega (arith, o .after i (omega arith) l)
+  ]
+
+  taken-one : (i j : ℕ) → (i < n) × (beside i ≡ 1) → (j < n) × (beside j ≡ 1) → i ≡ j
+  taken-one i j (l, e) (m, g) =
+      let x : at i ≡ u ∷ w = compared-equal (at i) (u ∷ w) e in
+      let y : at j ≡ u ∷ w = compared-equal (at j) (u ∷ w) g in
+      let z : compared (at i) (at j) ≡ 1 = rw (x, y) (compared-self (u ∷ w)) in
+      let v : compared (at j) (at i) ≡ 1 = rw (x, y) (compared-self (u ∷ w)) in
+      elim (decLt i j) [
+        | yes h ↦ absurd (omega (arith, f .order i j h m))
+        | no h ↦ elim (decLt j i) [
+          | yes k ↦ absurd (omega (arith, f .order j i k l))
+          | no k ↦ omega arith
+        ]
+      ]
+
+  pub spot-one : (i j : ℕ) (h g : Bool) → Spotted t p s b n u w i h → Spotted t p s b n u w j g → (i ≡ j) × (h ≡ g)
+  spot-one i j true true x y = (taken-one i j (x .taken refl) (y .taken refl), refl)
+  spot-one i j false false x y = (open-one i j (x .free refl) (y .free refl), refl)
+  spot-one i j true false x y = absurd (shut-open i j (x .taken refl) (y .free refl))
+  spot-one i j false true x y = absurd (shut-open j i (y .taken refl) (x .free refl))

@@ -1,18 +1,11 @@
--- The contracts of the public functions, as callers read them: nothing is asked, one answer is permitted, with every lent byte.
-use mathlib.Core.Path.{sym, refl, _∙_}
-use Rattle.search.specs.Contracts.{Settles}
-use Rattle.notes.proofs.is_empty.Kinds as is-empty
-use Rattle.notes.proofs.is_empty.Reads as is-empty-says
-use Rattle.notes.proofs.size.Kinds as size
-use Rattle.notes.proofs.size.Reads as size-says
-use Rattle.notes.proofs.common.Kinds as common
-use Rattle.notes.proofs.common.Reads as common-says
+-- The contract of the public function, as callers read it: where there is room, one answer is permitted, with every lent byte.
+use mathlib.Core.Path.{ap₂, sym, _∙_}
+use Rattle.search.specs.Contracts.{SettlesWhere}
+use Rattle.notes.proofs.note.Kinds as note
+use Rattle.notes.proofs.note.Reads as note-says
 
-pub is-empty-settled : Settles is-empty.ps is-empty.r is-empty-says.Asked is-empty-says.Learnt
-is-empty-settled = ((λ κs a. tt), (λ κs a x y w v p q. (p ∙ sym q, refl)))
-
-pub size-settled : Settles size.ps size.r size-says.Asked size-says.Learnt
-size-settled = ((λ κs a. tt), (λ κs a x y w v p q. (p ∙ sym q, refl)))
-
-pub common-settled : Settles common.ps common.r common-says.Asked common-says.Learnt
-common-settled = ((λ κs a. tt), (λ κs a x y w v p q. (p ∙ sym q, refl)))
+pub note-settled : SettlesWhere note.ps note.r note-says.Asked note-says.Learnt (λ κs r. r)
+note-settled κs a h x y w v p q = (
+  p .counts ∙ sym (q .counts),
+  ap₂ (λ l m. (l, (m, (tt, (tt, (tt, tt)))))) (p .places ∙ sym (q .places)) (p .slots ∙ sym (q .slots)),
+)

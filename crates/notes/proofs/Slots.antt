@@ -9,6 +9,7 @@ use borrow.Author.Tests.{eq-eqb, ne-eqb}
 use Rattle.search.specs.Least.{leastFrom}
 use Rattle.grammar.specs.Places.{place-least}
 use Rattle.grammar.specs.Draft.{noInput, inputOf, feedOf, loose}
+use Rattle.notes.specs.Layout.{linesBase, sourcesBase, feedsBase, fedBase}
 use Rattle.notes.specs.Listed.{listed, listed-length, listed-at}
 use Rattle.notes.specs.declared.Counts.{Counts}
 use Rattle.notes.specs.Ranks.{nameAt}
@@ -47,23 +48,23 @@ module _ (t p s : List ℕ) (c : Counts) where
   unfolding draftOf
   feeds-are = listed-length (feedAt s) (c .feeds)
 
-  pub source-is : (x : ℕ) → x < c .inputs → inputOf (draftOf t p s c) x .source ≡ getD s (544 + x) 0
+  pub source-is : (x : ℕ) → x < c .inputs → inputOf (draftOf t p s c) x .source ≡ getD s (sourcesBase + x) 0
   unfolding draftOf inputAt
   source-is x h = rw (listed-at (inputAt t p s) (c .inputs) x noInput h)
 
-  pub line-is : (x : ℕ) → x < c .inputs → inputOf (draftOf t p s c) x .line ≡ getD p (224 + x) 0
+  pub line-is : (x : ℕ) → x < c .inputs → inputOf (draftOf t p s c) x .line ≡ getD p (linesBase + x) 0
   unfolding draftOf inputAt
   line-is x h = rw (listed-at (inputAt t p s) (c .inputs) x noInput h)
 
 module _ (s : List ℕ) (x y k : ℕ) where
-  pub fed-here : getD s (640 + 2 * k) 0 ≡ x → getD s (641 + 2 * k) 0 ≡ y → T (isFed s x y k)
+  pub fed-here : getD s (feedsBase + 2 * k) 0 ≡ x → getD s (fedBase + 2 * k) 0 ≡ y → T (isFed s x y k)
   unfolding isFed
   fed-here a b = rw (eq-eqb _ _ a, eq-eqb _ _ b) tt
 
-  pub other-input : (getD s (640 + 2 * k) 0 ≡ x → ⊥) → T (not (isFed s x y k))
+  pub other-input : (getD s (feedsBase + 2 * k) 0 ≡ x → ⊥) → T (not (isFed s x y k))
   unfolding isFed
   other-input n = rw (ne-eqb _ _ n) tt
 
-  pub other-output : getD s (640 + 2 * k) 0 ≡ x → (getD s (641 + 2 * k) 0 ≡ y → ⊥) → T (not (isFed s x y k))
+  pub other-output : getD s (feedsBase + 2 * k) 0 ≡ x → (getD s (fedBase + 2 * k) 0 ≡ y → ⊥) → T (not (isFed s x y k))
   unfolding isFed
   other-output a n = rw (eq-eqb _ _ a, ne-eqb _ _ n) tt

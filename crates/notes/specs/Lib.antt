@@ -1,3 +1,4 @@
+pub mod Layout
 pub mod Compared
 pub mod Ranks
 pub mod Listed

@@ -5,6 +5,7 @@ use mathlib.Core.Bool.{Bool, true, false}
 use mathlib.Core.List.{List, _∷_}
 use lib.ListN.{getD}
 use Rattle.grammar.specs.Rows.{fieldAt}
+use Rattle.notes.specs.Layout.{namesSize, ownersBase}
 use Rattle.notes.specs.Compared.{compared}
 
 -- name k
@@ -13,7 +14,7 @@ nameAt t p k = fieldAt t (getD p k 0)
 
 -- name k behind its owner: what names are ordered by
 unfoldable pub keyAt : List ℕ → List ℕ → List ℕ → ℕ → List ℕ
-keyAt t p s k = getD s (224 + k) 0 ∷ nameAt t p k
+keyAt t p s k = getD s (ownersBase + k) 0 ∷ nameAt t p k
 
 -- the same for the name of rank i
 abbrev pub rankAt : List ℕ → List ℕ → List ℕ → ℕ → ℕ → List ℕ
@@ -21,7 +22,7 @@ rankAt t p s b i = keyAt t p s (b + getD s (b + i) 0)
 
 -- n names from name b on have one rank each, in their order
 pub record Ranked (t p s : List ℕ) (b n : ℕ) : Type 0 where
-  pub low : b + n ≤ 224
+  pub low : b + n ≤ namesSize
   pub number : (i : ℕ) → i < n → getD s (b + i) 0 < n
   pub order : (i j : ℕ) → i < j → j < n → compared (rankAt t p s b i) (rankAt t p s b j) ≡ 0
   pub rank : (k : ℕ) → k < n → (i : ℕ) × (i < n) × (getD s (b + i) 0 ≡ k)

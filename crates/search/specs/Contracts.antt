@@ -1,6 +1,7 @@
 -- What a contract must be, said of the contract itself as its callers read it.
 --   Settles         nothing is asked, one answer at most is permitted, with one content of all lent
 --   SettlesSeen     the same, of what is seen of a result: the bytes of a part that is handed back
+--   SettlesWhere    where what is asked holds, one answer at most is permitted, with all lent
 --   SettlesClauses  the same in the program logic, over a lent slice of structs: a fact is shown,
 --                   and that fact permits one answer
 --   Says            whatever the contract permits is so
@@ -27,6 +28,14 @@ module _ {n : ℕ} (ps : List (PK n)) (r : RK n) where
 
   abbrev pub Settles : In n ps → Out n ps r → Type 0
   Settles asked learnt = SettlesSeen asked learnt {B = λ κs. resT r κs .Denot} (λ κs x. x)
+
+  abbrev pub SettlesWhere : In n ps → Out n ps r → {B : Lfts n → Type 0}
+      → ((κs : Lfts n) → resT r κs .Denot → B κs) → Type 0
+  SettlesWhere asked learnt see =
+      (κs : Lfts n) (a : Dens κs ps) → asked κs a
+      → (x y : resT r κs .Denot) (w v : Lasts (endedOf n ps r) κs a)
+      → learnt κs a x (atExit (endedOf n ps r) κs a w)
+      → learnt κs a y (atExit (endedOf n ps r) κs a v) → (see κs x ≡ see κs y) × (w ≡ v)
 
   abbrev pub Says : Out n ps r
       → ((κs : Lfts n) (a : Dens κs ps) → resT r κs .Denot → Lasts (endedOf n ps r) κs a → Type 0) → Type 0

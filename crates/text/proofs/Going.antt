@@ -17,13 +17,17 @@ use Rattle.grammar.specs.Reading.{linesFrom, stopped}
 use Rattle.fields.specs.declared.Fields.{Fields}
 use Rattle.fields.specs.Spans.{fieldsAt}
 use Rattle.fields.specs.Promise.{fields-told}
+use Rattle.notes.specs.Layout.{outputsBase, inputsBase, placesSize, slotsSize}
 use Rattle.notes.specs.declared.Counts.{Counts}
 use Rattle.notes.specs.Listed.{listed}
-use Rattle.notes.specs.Notes.{draftOf, Fit}
-use Rattle.notes.proofs.Walk.{drop-all}
+use Rattle.notes.specs.Notes.{draftOf, Fit, Stands}
+use Rattle.names.proofs.Walk.{drop-all}
 use Rattle.notes.proofs.Ranks.{none-ranked}
-use Rattle.text.specs.declared.Taken.{Taken}
-use Rattle.text.specs.Took.{Told, Took}
+use Rattle.notes.specs.declared.Entry.{Entry}
+use Rattle.notes.specs.Noted.{placesWith, slotsWith, countsWith, Became, Room}
+use Rattle.notes.proofs.Declaring.{declares-stands, declares-room}
+use Rattle.lines.specs.declared.Taken.{Taken}
+use Rattle.lines.specs.Took.{Told, Took}
 use Rattle.text.specs.Walked.{Ended, Walked}
 
 -- ---- an ended text has a line at each of its places
@@ -76,7 +80,7 @@ pub record Going (t : List ℕ) (a : ℕ) (p s : List ℕ) (c : Counts) (at k : 
 abbrev pub noneYet : Counts
 noneYet = record { units = 0; outputs = 0; inputs = 0; feeds = 0 }
 
-pub none-fits : (t p s : List ℕ) → length p ≡ 320 → length s ≡ 896 → Fit t p s noneYet
+pub none-fits : (t p s : List ℕ) → length p ≡ placesSize → length s ≡ slotsSize → Fit t p s noneYet
 none-fits t p s h g = record {
   places-long = h;
   slots-long = g;
@@ -86,39 +90,48 @@ none-fits t p s h g = record {
   feeds-most = omega arith;
   units-ranked = none-ranked t p s 0 (omega arith);
   units-free = λ i z. absurd (omega arith);
-  outputs-ranked = none-ranked t p s 32 (omega arith);
-  inputs-ranked = none-ranked t p s 128 (omega arith);
+  outputs-ranked = none-ranked t p s outputsBase (omega arith);
+  inputs-ranked = none-ranked t p s inputsBase (omega arith);
 }
 
-pub going-starts : (t : List ℕ) (a : ℕ) (p s : List ℕ) → length p ≡ 320 → length s ≡ 896 → a ≤ length t
+pub going-starts : (t : List ℕ) (a : ℕ) (p s : List ℕ) → length p ≡ placesSize → length s ≡ slotsSize → a ≤ length t
     → Going t a p s noneYet a 2
 unfolding draftOf blank listed
 going-starts t a p s h g w =
     record { fit = none-fits t p s h g; within = w; low = omega arith; left = λ room. refl }
 
 module _ (t : List ℕ) (a : ℕ) (p s : List ℕ) (c : Counts) (at k : ℕ) (g : Going t a p s c at k) where
-  module _ (l : Fields) (told : Told t at l) (q r : List ℕ) (o : Taken)
-      (took : Took t q r o (line (draftOf t p s c) k (rowAt t at))) where
+  module _ (l : Fields) (told : Told t at l) (entry : ℕ → Entry) (o : Taken)
+      (took : Took t p s c k entry o (line (draftOf t p s c) k (rowAt t at))) where
     left-then : (room : ℕ) → linesFrom room blank 2 (rows (drop a t))
-        ≡ cond (eqb (o .number) 0) (linesFrom room (draftOf t q r (o .counts)) (suc k) (rows (drop (l .next) t))) (stopped (o .number) k)
+        ≡ cond (eqb (o .number) 0)
+        (linesFrom room (line (draftOf t p s c) k (rowAt t at) .draft) (suc k) (rows (drop (l .next) t))) (stopped (o .number) k)
     unfolding linesFrom
-    left-then room =
-        g .left room ∙ rw (told .rest)
-        (rw (took .number, took .stands .is))
+    left-then room = g .left room ∙ rw (told .rest) (rw (took .number))
 
-    pub going-on : (n : ℕ) → o .number ≡ 0 → n ≡ l .next → Going t a q r (o .counts) n (k + 1)
-    going-on n z e = record {
-      fit = took .stands .fit;
+    -- what the line declares has its room
+    pub going-room : o .number ≡ 0 → Room p s c (o .entry)
+    going-room z = declares-room t p s c k (g .fit) (took .declares z)
+
+    pub going-on : (q r : List ℕ) (m : Counts) (n : ℕ) → o .number ≡ 0
+        → Became q r m (placesWith p c (o .entry) k) (slotsWith s c (o .entry)) (countsWith c (o .entry))
+        → n ≡ l .next → Going t a q r m n (k + 1)
+    going-on q r m n z b e = record {
+      fit = stands .fit;
       within = omega (arith, told .inside);
       low = omega (arith, g .low, told .further);
-      left = λ room. left-then room ∙ rw (z, e, add-one k);
+      left = λ room. left-then room ∙ rw (z, e, add-one k, stands .is);
     }
+      where
+        stands : Stands t q r m (line (draftOf t p s c) k (rowAt t at) .draft)
+        stands =
+            rw (b .places, b .slots, b .counts) (declares-stands t p s c k (g .fit) (took .declares z))
 
     pub going-stop : (o .number ≡ 0 → ⊥)
-        → Walked t q r (record { number = o .number; place = k; counts = o .counts })
+        → Walked t p s (record { number = o .number; place = k; counts = c })
         (λ room. linesFrom room blank 2 (rows (drop a t)))
     going-stop n = record {
-      fit = took .stands .fit;
+      fit = g .fit;
       left = λ room. left-then room ∙ rw (ne-eqb (o .number) 0 n);
     }
 

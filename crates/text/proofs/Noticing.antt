@@ -11,14 +11,15 @@ use Rattle.grammar.specs.Rows.{rows, rowAt}
 use Rattle.grammar.specs.Draft.{blank, loose}
 use Rattle.grammar.specs.Reading.{reading, lineByLine, linesFrom, ending, stopped, version}
 use Rattle.fields.specs.declared.Fields.{Fields}
+use Rattle.notes.specs.Layout.{linesBase}
 use Rattle.notes.specs.declared.Counts.{Counts}
 use Rattle.notes.specs.Notes.{draftOf}
 use Rattle.notes.proofs.Slots.{units-are, line-is}
 use Rattle.text.specs.declared.Answer.{Answer}
 use Rattle.text.specs.declared.Noted.{Noted}
-use Rattle.text.specs.Took.{Told}
+use Rattle.lines.specs.Took.{Told}
 use Rattle.text.specs.Walked.{Whole, Walked, Closed, Noticed, roomed}
-use Rattle.text.proofs.Outcomes.{is-input, no-input}
+use Rattle.lines.proofs.Outcomes.{is-input, no-input}
 
 -- ---- 33, 31
 
@@ -28,7 +29,7 @@ module _ (t p s : List ℕ) (c : Counts) where
   close-33 z = record { kept = refl; left = λ room. rw (units-are t p s c ∙ z) }
 
   module _ (n : c .units ≡ 0 → ⊥) (x : ℕ) (q : x ≡ loose (draftOf t p s c)) where
-    pub close-31 : x < c .inputs → (k : ℕ) → k ≡ getD p (224 + x) 0
+    pub close-31 : x < c .inputs → (k : ℕ) → k ≡ getD p (linesBase + x) 0
         → Closed t p s c (record { number = 31; place = k; counts = c })
     unfolding ending
     close-31 h k e = record {

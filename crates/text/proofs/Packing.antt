@@ -7,6 +7,7 @@ use lib.ListN.{length, getD, take, drop, length-append, length-drop}
 use lib.Seq.{length-take-le}
 use Rattle.grammar.specs.Draft.{Output, Input, Feed}
 use Rattle.grammar.specs.Reading.{packed, pairs}
+use Rattle.notes.specs.Layout.{outputOwners, inputOwners, kindsBase, sourcesBase, feedsBase, fedBase, slotsSize}
 use Rattle.notes.specs.declared.Counts.{Counts}
 use Rattle.notes.specs.Listed.{listed, listed-map, listed-part, listed-length}
 use Rattle.notes.specs.Ranks.{nameAt}
@@ -45,36 +46,36 @@ listed-two g n =
     ap (listed g) (let z : 2 * suc n ≡ suc (suc (2 * n)) = omega arith in z)
     ∙ append-assoc (listed g (2 * n)) (g (2 * n) ∷ []) (g (suc (2 * n)) ∷ [])
 
-pairs-are : (s : List ℕ) (n : ℕ) → pairs (listed (feedAt s) n) ≡ listed (λ i. getD s (640 + i) 0) (2 * n)
+pairs-are : (s : List ℕ) (n : ℕ) → pairs (listed (feedAt s) n) ≡ listed (λ i. getD s (feedsBase + i) 0) (2 * n)
 unfolding listed pairs feedAt
 pairs-are s zero = refl
 pairs-are s (suc n) =
     pairs-append (listed (feedAt s) n) (feedAt s n)
     ∙ rw (pairs-are s n)
-    (sym (listed-two (λ i. getD s (640 + i) 0) n
-    ∙ ap (λ k. listed (λ i. getD s (640 + i) 0) (2 * n) ++ (getD s (640 + 2 * n) 0 ∷ getD s k 0 ∷ []))
-    (let z : 640 + suc (2 * n) ≡ 641 + 2 * n = omega arith in z)))
+    (sym (listed-two (λ i. getD s (feedsBase + i) 0) n
+    ∙ ap (λ k. listed (λ i. getD s (feedsBase + i) 0) (2 * n) ++ (getD s (feedsBase + 2 * n) 0 ∷ getD s k 0 ∷ []))
+    (let z : feedsBase + suc (2 * n) ≡ fedBase + 2 * n = omega arith in z)))
 
 module _ (t p s : List ℕ) (c : Counts) (f : Fit t p s c) where
   pub packed-is : packed (draftOf t p s c) ≡ bytesOf s c
   unfolding packed draftOf bytesOf outputAt inputAt
   packed-is =
-      let l : length s ≡ 896 = f .slots-long in
+      let l : length s ≡ slotsSize = f .slots-long in
       rw (
         listed-length (nameAt t p) (c .units),
         listed-length (outputAt t p s) (c .outputs),
         listed-length (inputAt t p s) (c .inputs),
         listed-length (feedAt s) (c .feeds),
         listed-map (λ (o : Output). o .owner) (outputAt t p s) (c .outputs),
-        slots-are s 256 (c .outputs) (omega (arith, f .outputs-most)),
+        slots-are s outputOwners (c .outputs) (omega (arith, f .outputs-most)),
         listed-map (λ (i : Input). i .owner) (inputAt t p s) (c .inputs),
-        slots-are s 352 (c .inputs) (omega (arith, f .inputs-most)),
+        slots-are s inputOwners (c .inputs) (omega (arith, f .inputs-most)),
         listed-map (λ (i : Input). i .kind) (inputAt t p s) (c .inputs),
-        slots-are s 448 (c .inputs) (omega (arith, f .inputs-most)),
+        slots-are s kindsBase (c .inputs) (omega (arith, f .inputs-most)),
         listed-map (λ (i : Input). i .source) (inputAt t p s) (c .inputs),
-        slots-are s 544 (c .inputs) (omega (arith, f .inputs-most)),
+        slots-are s sourcesBase (c .inputs) (omega (arith, f .inputs-most)),
         pairs-are s (c .feeds),
-        slots-are s 640 (2 * c .feeds) (omega (arith, f .feeds-most)),
+        slots-are s feedsBase (2 * c .feeds) (omega (arith, f .feeds-most)),
       )
       (simp append-assoc)
 
@@ -83,14 +84,14 @@ pub bytes-long : (s : List ℕ) (c : Counts) → Slotted s c
     → length (bytesOf s c) ≡ 4 + c .outputs + 3 * c .inputs + 2 * c .feeds
 unfolding bytesOf
 bytes-long s c g =
-    let l : length s ≡ 896 = g .long in
+    let l : length s ≡ slotsSize = g .long in
     simp (
       length-append,
-      slots-long s 256 (c .outputs) (omega (arith, g .outputs-most)),
-      slots-long s 352 (c .inputs) (omega (arith, g .inputs-most)),
-      slots-long s 448 (c .inputs) (omega (arith, g .inputs-most)),
-      slots-long s 544 (c .inputs) (omega (arith, g .inputs-most)),
-      slots-long s 640 (2 * c .feeds) (omega (arith, g .feeds-most)),
+      slots-long s outputOwners (c .outputs) (omega (arith, g .outputs-most)),
+      slots-long s inputOwners (c .inputs) (omega (arith, g .inputs-most)),
+      slots-long s kindsBase (c .inputs) (omega (arith, g .inputs-most)),
+      slots-long s sourcesBase (c .inputs) (omega (arith, g .inputs-most)),
+      slots-long s feedsBase (2 * c .feeds) (omega (arith, g .feeds-most)),
     )
     (omega arith)
 
@@ -109,19 +110,19 @@ module _ (s : List ℕ) (c : Counts) (out : List ℕ) (room : length (bytesOf s 
   p₄ = p₃ ++ (c .feeds ∷ [])
 
   abbrev p₅ : List ℕ
-  p₅ = p₄ ++ slotsFrom s 256 (c .outputs)
+  p₅ = p₄ ++ slotsFrom s outputOwners (c .outputs)
 
   abbrev p₆ : List ℕ
-  p₆ = p₅ ++ slotsFrom s 352 (c .inputs)
+  p₆ = p₅ ++ slotsFrom s inputOwners (c .inputs)
 
   abbrev p₇ : List ℕ
-  p₇ = p₆ ++ slotsFrom s 448 (c .inputs)
+  p₇ = p₆ ++ slotsFrom s kindsBase (c .inputs)
 
   abbrev p₈ : List ℕ
-  p₈ = p₇ ++ slotsFrom s 544 (c .inputs)
+  p₈ = p₇ ++ slotsFrom s sourcesBase (c .inputs)
 
   abbrev p₉ : List ℕ
-  p₉ = p₈ ++ slotsFrom s 640 (2 * c .feeds)
+  p₉ = p₈ ++ slotsFrom s feedsBase (2 * c .feeds)
 
   whole : length p₉ ≤ length out
   unfolding bytesOf
@@ -131,25 +132,25 @@ module _ (s : List ℕ) (c : Counts) (out : List ℕ) (room : length (bytesOf s 
   shorter a b h = omega (arith, length-append a b)
 
   r₈ : 0 + length p₈ ≤ length out
-  r₈ = shorter p₈ (slotsFrom s 640 (2 * c .feeds)) (omega (arith, whole))
+  r₈ = shorter p₈ (slotsFrom s feedsBase (2 * c .feeds)) (omega (arith, whole))
 
   r₇ : 0 + length p₇ ≤ length out
-  r₇ = shorter p₇ (slotsFrom s 544 (c .inputs)) r₈
+  r₇ = shorter p₇ (slotsFrom s sourcesBase (c .inputs)) r₈
 
   r₆ : 0 + length p₆ ≤ length out
-  r₆ = shorter p₆ (slotsFrom s 448 (c .inputs)) r₇
+  r₆ = shorter p₆ (slotsFrom s kindsBase (c .inputs)) r₇
 
   r₅ : 0 + length p₅ ≤ length out
-  r₅ = shorter p₅ (slotsFrom s 352 (c .inputs)) r₆
+  r₅ = shorter p₅ (slotsFrom s inputOwners (c .inputs)) r₆
 
   r₄ : 0 + length p₄ ≤ length out
-  r₄ = shorter p₄ (slotsFrom s 256 (c .outputs)) r₅
+  r₄ = shorter p₄ (slotsFrom s outputOwners (c .outputs)) r₅
 
   pub puts-packed : {o₁ o₂ o₃ o₄ o₅ o₆ o₇ o₈ o₉ : List ℕ} {k₁ k₂ k₃ k₄ k₅ k₆ k₇ k₈ k₉ : ℕ}
       → Put out 0 (c .units ∷ []) o₁ k₁ → Put o₁ k₁ (c .outputs ∷ []) o₂ k₂ → Put o₂ k₂ (c .inputs ∷ []) o₃ k₃
-      → Put o₃ k₃ (c .feeds ∷ []) o₄ k₄ → Put o₄ k₄ (slotsFrom s 256 (c .outputs)) o₅ k₅
-      → Put o₅ k₅ (slotsFrom s 352 (c .inputs)) o₆ k₆ → Put o₆ k₆ (slotsFrom s 448 (c .inputs)) o₇ k₇
-      → Put o₇ k₇ (slotsFrom s 544 (c .inputs)) o₈ k₈ → Put o₈ k₈ (slotsFrom s 640 (2 * c .feeds)) o₉ k₉
+      → Put o₃ k₃ (c .feeds ∷ []) o₄ k₄ → Put o₄ k₄ (slotsFrom s outputOwners (c .outputs)) o₅ k₅
+      → Put o₅ k₅ (slotsFrom s inputOwners (c .inputs)) o₆ k₆ → Put o₆ k₆ (slotsFrom s kindsBase (c .inputs)) o₇ k₇
+      → Put o₇ k₇ (slotsFrom s sourcesBase (c .inputs)) o₈ k₈ → Put o₈ k₈ (slotsFrom s feedsBase (2 * c .feeds)) o₉ k₉
       → o₉ ≡ fronted (bytesOf s c) out
   unfolding bytesOf
   puts-packed a b d e f g h i j =

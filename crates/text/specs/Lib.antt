@@ -1,3 +1,2 @@
-pub mod Took
 pub mod Walked
 pub mod Packs

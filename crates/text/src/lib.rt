@@ -4,24 +4,14 @@ ghost use lib.ListN.{length};
 ghost use Rattle.search.specs.Front.{fronted};
 ghost use Rattle.grammar.specs.Reading.{reading};
 
-mod declares;
-mod draft;
-mod joins;
-mod lines;
-mod names;
 mod noting;
 mod pack;
-mod shape;
 mod walk;
 mod whole;
 
 use notes::Counts;
-
-// The number of a line's refusal, or 0, and what has been noted after it.
-pub struct Taken {
-    pub number: u8,
-    pub counts: Counts,
-}
+use notes::PLACES;
+use notes::SLOTS;
 
 // A refusal's number with its place, or 0, and what has been noted.
 pub struct Noted {
@@ -30,16 +20,17 @@ pub struct Noted {
     pub counts: Counts,
 }
 
-// The rank of a name, or where it would stand, and whether it is there.
-pub struct Spot {
-    pub rank: usize,
-    pub here: bool,
-}
-
 // 0 and the packed length, or the number of a refusal and its line.
 pub struct Answer {
     pub number: u8,
     pub place: usize,
+}
+
+// A place kept in 16 bits.
+fn wide(place: u16) -> usize
+    ensures { λ r. ⌜ r ≡ place ⌝ }
+{
+    place as usize
 }
 
 // Reads a text of any bytes into a packed table, at the front of a buffer of any size.
@@ -51,8 +42,8 @@ pub fn read(text: &[u8], out: &mut [u8]) -> Answer
     ensures { λ r. ⌜ now (out .exit)
         ≡ fronted (reading (length (now (out .entry))) (now (text .entry)) .bytes) (now (out .entry)) ⌝ }
 {
-    let mut places = [0u16; 320];
-    let mut slots = [0u8; 896];
+    let mut places = [0u16; PLACES];
+    let mut slots = [0u8; SLOTS];
     let noted = noting::note(text, &mut places, &mut slots);
     let number = noted.number;
     if number != 0 {

@@ -5,6 +5,11 @@ ghost use mathlib.Core.Path.{_≡_};
 ghost use Rattle.search.specs.Front.{fronted};
 ghost use Rattle.text.specs.Packs.{Slotted, bytesOf};
 use notes::Counts;
+use notes::FEEDS;
+use notes::INPUT_OWNERS;
+use notes::KINDS;
+use notes::OUTPUT_OWNERS;
+use notes::SOURCES;
 
 // The packed length.
 pub fn size(counts: Counts) -> usize
@@ -30,9 +35,9 @@ pub fn pack(slots: &[u8], counts: Counts, out: &mut [u8])
     at = pen::put_byte(out, at, outputs as u8);
     at = pen::put_byte(out, at, inputs as u8);
     at = pen::put_byte(out, at, feeds as u8);
-    at = pen::put(out, at, &slots[256..256 + outputs]);
-    at = pen::put(out, at, &slots[352..352 + inputs]);
-    at = pen::put(out, at, &slots[448..448 + inputs]);
-    at = pen::put(out, at, &slots[544..544 + inputs]);
-    pen::put(out, at, &slots[640..640 + 2 * feeds]);
+    at = pen::put(out, at, &slots[OUTPUT_OWNERS..OUTPUT_OWNERS + outputs]);
+    at = pen::put(out, at, &slots[INPUT_OWNERS..INPUT_OWNERS + inputs]);
+    at = pen::put(out, at, &slots[KINDS..KINDS + inputs]);
+    at = pen::put(out, at, &slots[SOURCES..SOURCES + inputs]);
+    pen::put(out, at, &slots[FEEDS..FEEDS + 2 * feeds]);
 }

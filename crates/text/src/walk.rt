@@ -6,15 +6,17 @@ ghost use Rattle.grammar.specs.Rows.{rows};
 ghost use Rattle.grammar.specs.Draft.{blank};
 ghost use Rattle.grammar.specs.Reading.{linesFrom};
 ghost use Rattle.text.specs.Walked.{Ended, Walked};
+ghost use Rattle.notes.specs.Layout.{placesSize, slotsSize};
 use crate::Noted;
-use crate::lines;
-use crate::names;
+use crate::wide;
 use notes::Counts;
+use notes::Places;
+use notes::Slots;
 
 // Notes the lines from place a on, of which the first is line 2, until one is refused.
-pub fn walk(text: &[u8], places: &mut [u16; 320], slots: &mut [u8; 896], a: usize) -> Noted
+pub fn walk(text: &[u8], places: &mut Places, slots: &mut Slots, a: usize) -> Noted
     requires { ⌜ Ended (now text) ⌝ }
-    requires { ⌜ (length (now places) ≡ 320) × (length (now slots) ≡ 896) ⌝ }
+    requires { ⌜ (length (now places) ≡ placesSize) × (length (now slots) ≡ slotsSize) ⌝ }
     requires { ⌜ a ≤ length (now text) ⌝ }
     ensures { λ r. ⌜ Walked (now (text .entry)) (now (places .exit)) (now (slots .exit)) r (λ room. linesFrom room blank 2 (rows (drop a (now (text .entry))))) ⌝ }
 {
@@ -30,7 +32,6 @@ pub fn walk(text: &[u8], places: &mut [u16; 320], slots: &mut [u8; 896], a: usiz
         let fields = fields::fields_at(text, at);
         let taken = lines::line(text, places, slots, counts, at, fields, number);
         let bad = taken.number;
-        counts = taken.counts;
         if bad != 0 {
             return Noted {
                 number: bad,
@@ -38,7 +39,9 @@ pub fn walk(text: &[u8], places: &mut [u16; 320], slots: &mut [u8; 896], a: usiz
                 counts: counts,
             };
         }
-        at = names::wide(fields.next);
+        let entry = taken.entry;
+        counts = notes::note(places, slots, counts, entry, number as u16);
+        at = wide(fields.next);
         number += 1;
     }
     Noted {

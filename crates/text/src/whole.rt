@@ -2,10 +2,10 @@
 ghost use mathlib.Core.Path.{_≡_};
 ghost use Rattle.grammar.specs.Rows.{rowAt};
 ghost use Rattle.grammar.specs.Reading.{version as versionOf};
-ghost use Rattle.text.specs.Took.{Told};
+ghost use Rattle.lines.specs.Took.{Told};
 ghost use Rattle.text.specs.Walked.{Whole};
 use crate::Answer;
-use crate::names;
+use crate::wide;
 use fields::Fields;
 
 // 20, 21 or 22 with its line, or 0.
@@ -52,13 +52,13 @@ pub fn version(text: &[u8], fields: Fields) -> u8
     if fields.count != 2 {
         return 0;
     }
-    let b = names::wide(fields.from[0]);
-    let e = names::wide(fields.to[0]);
+    let b = wide(fields.from[0]);
+    let e = wide(fields.to[0]);
     if !fields::same(&text[b..e], b"cosim") {
         return 0;
     }
-    let c = names::wide(fields.from[1]);
-    let f = names::wide(fields.to[1]);
+    let c = wide(fields.from[1]);
+    let f = wide(fields.to[1]);
     if !fields::same(&text[c..f], b"1") {
         return 0;
     }

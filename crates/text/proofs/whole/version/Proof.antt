@@ -6,7 +6,7 @@ use mathlib.Core.Path.{sym, _∙_}
 use native.Mathlib.Omega.{arith}
 use borrow.Author.Tests.{not-true, not-false}
 use Rattle.grammar.specs.Rows.{stretch}
-use Rattle.text.proofs.Outcomes.{first-word, word-here, word-ends}
+use Rattle.lines.proofs.Outcomes.{first-word, word-here, word-ends}
 use Rattle.text.proofs.Checks.{version-count, version-word, version-other, version-one}
 
 returns : tie.Need-returns
