@@ -7,7 +7,6 @@ sys.dont_write_bytecode = True
 from sources import CRATES, rows  # noqa: E402
 
 COLUMNS = 100
-LATER = {"fields", "lines", "names", "notes", "scan", "text"}  # crates that are not held yet
 
 
 def counted():
@@ -27,12 +26,12 @@ def faults(path, kept):
 
 def main():
     files = [path for end in ("antt", "rt") for path in sorted(CRATES.rglob(f"*.{end}"))]
-    kept, held = counted(), [path for path in files if path.relative_to(CRATES).parts[0] not in LATER]
-    found = [list(faults(path, kept)) for path in held]
+    kept = counted()
+    found = [list(faults(path, kept)) for path in files]
     failed = [fault for each in found for fault in each]
-    print("\n".join(failed) if failed else f"{len(held)} files of {len(files)} held to their layout")
+    print("\n".join(failed) if failed else f"{len(files)} files held to their layout")
     print(f"{found.count([])} passed, {len(failed)} failed")
-    sys.exit(bool(failed) or not held)
+    sys.exit(bool(failed) or not files)
 
 
 main()

@@ -27,7 +27,8 @@ module _ (a b : List ℕ) (i : ℕ) where
   same-on h g e = rw (add-one, drop-cons a i 0, drop-cons b i 0, eq-eqb (getD a i 0) (getD b i 0) e)
 
   pub same-stop :
-      i < length a → i < length b → (getD a i 0 ≡ getD b i 0 → ⊥) → same (drop i a) (drop i b) ≡ false
+      i < length a → i < length b → (getD a i 0 ≡ getD b i 0 → ⊥)
+      → same (drop i a) (drop i b) ≡ false
   unfolding same
   same-stop h g e = rw (drop-cons a i 0, drop-cons b i 0, ne-eqb (getD a i 0) (getD b i 0) e)
 
@@ -37,7 +38,8 @@ module _ (a b : List ℕ) (i : ℕ) where
 
 module _ (t : List ℕ) (i : ℕ) where
   pub word-on :
-      i < length t → (getD t i 0 ≡ lf → ⊥) → (getD t i 0 ≡ tab → ⊥) → wordEnd t i ≡ wordEnd t (i + 1)
+      i < length t → (getD t i 0 ≡ lf → ⊥) → (getD t i 0 ≡ tab → ⊥)
+      → wordEnd t i ≡ wordEnd t (i + 1)
   unfolding wordEnd fieldAt front
   word-on h p q = rw (drop-cons t i 0, ne-eqb _ _ p, ne-eqb _ _ q, add-one i) (omega arith)
 

@@ -1,4 +1,4 @@
--- The loop over a line's fields: those before place at are in l, and the line goes on at that place.
+-- The loop over a line's fields: those before place at are in l, and the line goes on there.
 use Prim.Native.Nat.{ℕ, _+_, _<_, _≤_}
 use mathlib.Core.Path.{_≡_, refl, ap, sym, _∙_}
 use mathlib.Core.List.{List, [], _∷_}
@@ -26,7 +26,8 @@ pub too-long : (t : List ℕ) (a : ℕ) → 65535 < length t → noFields ≡ fi
 unfolding fieldsAt
 too-long t a h = rw (lt-ltb 65535 (length t) h)
 
-module _ {t : List ℕ} {a : ℕ} {l : Fields} {at : ℕ} (g : Lexing t a l at) (e : ℕ) (p : e ≡ wordEnd t at) where
+module _ {t : List ℕ} {a : ℕ} {l : Fields} {at : ℕ} (g : Lexing t a l at) (e : ℕ)
+    (p : e ≡ wordEnd t at) where
   pub lexing-low : at ≤ e
   lexing-low = rw p (end-behind t at)
 

@@ -1,4 +1,4 @@
--- The contracts of the public functions, as callers read them: nothing is asked, one answer is permitted, with every lent byte.
+-- Each public function's contract asks nothing and permits one answer, with every lent byte.
 use mathlib.Core.Path.{sym, refl, _∙_}
 use Rattle.search.specs.Contracts.{Settles}
 use Rattle.fields.proofs.same.Kinds as same

@@ -25,7 +25,10 @@ module _ (xs : List ℕ) (n v : ℕ) (r : length xs ≡ 5) where
   pub keep-long : length (keep xs n v) ≡ 5
   unfolding keep
   keep-long =
-      elim (decLt n 5) [ yes h ↦ rw (lt-leb 5 n h, length-set) r | no h ↦ rw (le-leb 5 n (omega arith)) r ]
+      elim (decLt n 5) [
+        | yes h ↦ rw (lt-leb 5 n h, length-set) r
+        | no h ↦ rw (le-leb 5 n (omega arith)) r
+      ]
 
   pub keep-new : n < 5 → getD (keep xs n v) n 0 ≡ v
   unfolding keep
@@ -51,7 +54,8 @@ pub record Before (t : List ℕ) (a : ℕ) (l : Fields) (at : ℕ) : Type 0 wher
   pub long : length (rowAt t a) ≡ l .count + length (rowAt t at)
   pub left : drop (l .count) (rowAt t a) ≡ rowAt t at
   pub tail : drop 1 (rows (drop a t)) ≡ drop 1 (rows (drop at t))
-  pub fields : (i : ℕ) → i < 5 → i < l .count → Stands t (rowAt t a) i (getD (l .from) i 0) (getD (l .to) i 0)
+  pub fields : (i : ℕ) → i < 5 → i < l .count
+      → Stands t (rowAt t a) i (getD (l .from) i 0) (getD (l .to) i 0)
   pub low : a ≤ at
 
 pub before-none : (t : List ℕ) (a : ℕ) → Before t a noFields a
@@ -66,9 +70,11 @@ before-none t a = record {
   low = omega arith;
 }
 
-module _ (t : List ℕ) (a : ℕ) (l : Fields) (at : ℕ) (g : Before t a l at) (h : wordEnd t at < length t) where
+module _ (t : List ℕ) (a : ℕ) (l : Fields) (at : ℕ) (g : Before t a l at)
+    (h : wordEnd t at < length t) where
   -- the field at place at is the line's next
-  next-field : (fs : List (List ℕ)) → rowAt t at ≡ fieldAt t at ∷ fs → fieldAt t at ≡ word (rowAt t a) (l .count)
+  next-field : (fs : List (List ℕ)) → rowAt t at ≡ fieldAt t at ∷ fs
+      → fieldAt t at ≡ word (rowAt t a) (l .count)
   unfolding word
   next-field fs r =
       let n : l .count + 0 ≡ l .count = omega arith in
@@ -78,11 +84,15 @@ module _ (t : List ℕ) (a : ℕ) (l : Fields) (at : ℕ) (g : Before t a l at) 
   module _ (fs : List (List ℕ)) (r : rowAt t at ≡ fieldAt t at ∷ fs) where
     more-fields :
         (i : ℕ) → i < 5 → i < l .count + 1 →
-        Stands t (rowAt t a) i (getD (oneMore l at (wordEnd t at) .from) i 0) (getD (oneMore l at (wordEnd t at) .to) i 0)
+        Stands t (rowAt t a) i (getD (oneMore l at (wordEnd t at) .from) i 0)
+        (getD (oneMore l at (wordEnd t at) .to) i 0)
     unfolding oneMore
     more-fields i five k = elim (decLt i (l .count)) [
       | yes q ↦
-          rw (keep-old (l .from) (l .count) at (g .froms) i q, keep-old (l .to) (l .count) (wordEnd t at) (g .tos) i q)
+          rw (
+            keep-old (l .from) (l .count) at (g .froms) i q,
+            keep-old (l .to) (l .count) (wordEnd t at) (g .tos) i q,
+          )
           (g .fields i five q)
       | no q ↦
           let n : i ≡ l .count = omega arith in
@@ -103,7 +113,8 @@ module _ (t : List ℕ) (a : ℕ) (l : Fields) (at : ℕ) (g : Before t a l at) 
   unfolding rowAt
   last-rest b n =
       first-row (rows (drop a t)) (omega (arith, n))
-      ∙ ap {B = List (List (List ℕ))} (λ rs. rowAt t a ∷ rs) (g .tail ∙ ap (drop 1) (line-ends t at h b))
+      ∙ ap {B = List (List (List ℕ))} (λ rs. rowAt t a ∷ rs)
+      (g .tail ∙ ap (drop 1) (line-ends t at h b))
 
   pub told-last : getD t (wordEnd t at) 0 ≡ lf → Told t a (oneMore l at (wordEnd t at))
   unfolding oneMore

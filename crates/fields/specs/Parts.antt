@@ -1,4 +1,4 @@
--- Each of a line's first five fields as a part of the text, the empty part where the line has no such field.
+-- Each of a line's first five fields as a part of the text, the empty part where it has none.
 use Prim.Native.Nat.{ℕ, _+_, _<_, _≤_}
 use mathlib.Core.Path.{_≡_, refl, sym, _∙_}
 use mathlib.Core.List.{List, [], _∷_}
@@ -30,17 +30,23 @@ keep-far xs n v i g = elim (decLt n 5) [
 -- what stands behind the last field is as it was
 spans-far :
     (a : ℕ) (r : List (List ℕ)) (l : Fields) (i : ℕ) → l .count + length r ≤ i →
-    (getD (spans a r l .from) i 0 ≡ getD (l .from) i 0) × (getD (spans a r l .to) i 0 ≡ getD (l .to) i 0)
+    (getD (spans a r l .from) i 0 ≡ getD (l .from) i 0)
+    × (getD (spans a r l .to) i 0 ≡ getD (l .to) i 0)
 unfolding spans oneMore
 spans-far a [] l i h = (refl, refl)
 spans-far a (f ∷ fs) l i h =
-    let m = spans-far (a + length f + 1) fs (oneMore l a (a + length f)) i (omega arith) in
-    (m .0 ∙ keep-far (l .from) (l .count) a i (omega arith), m .1 ∙ keep-far (l .to) (l .count) (a + length f) i (omega arith))
+    let m = spans-far (a + length f + 1) fs (oneMore l a (a + length f)) i (omega arith) in (
+      m .0 ∙ keep-far (l .from) (l .count) a i (omega arith),
+      m .1
+          ∙ keep-far (l .to) (l .count) (a + length f) i (omega arith),
+    )
 
-spans-next : (a : ℕ) (f : List ℕ) (fs : List (List ℕ)) (l : Fields) → spans a (f ∷ fs) l .next ≡ a + span (f ∷ fs)
+spans-next : (a : ℕ) (f : List ℕ) (fs : List (List ℕ)) (l : Fields)
+    → spans a (f ∷ fs) l .next ≡ a + span (f ∷ fs)
 unfolding spans span oneMore
 spans-next a f [] l = omega arith
-spans-next a f (g ∷ gs) l = spans-next (a + length f + 1) g gs (oneMore l a (a + length f)) ∙ omega arith
+spans-next a f (g ∷ gs) l =
+    spans-next (a + length f + 1) g gs (oneMore l a (a + length f)) ∙ omega arith
 
 module _ (t : List ℕ) (a : ℕ) (small : length t ≤ 65535) where
   whole : fieldsAt t a ≡ spans a (rowAt t a) noFields
@@ -63,13 +69,20 @@ module _ (t : List ℕ) (a : ℕ) (small : length t ≤ 65535) where
     unfolding noFields word stretch
     no-part h =
         let far = spans-far a (rowAt t a) noFields i (omega arith) in
-        let f : getD (fieldsAt t a .from) i 0 ≡ 0 = rw whole (far .0 ∙ getD-replicate 5 i 0 0 five) in
+        let f : getD (fieldsAt t a .from) i 0 ≡ 0 =
+        rw whole (far .0 ∙ getD-replicate 5 i 0 0 five) in
         let e : getD (fieldsAt t a .to) i 0 ≡ 0 = rw whole (far .1 ∙ getD-replicate 5 i 0 0 five) in
-        record { order = omega (arith, f, e); within = omega (arith, e); bytes = rw (f, e) (sym (List·getD-eq-default (rowAt t a) [] h)) }
+        record {
+          order = omega (arith, f, e);
+          within = omega (arith, e);
+          bytes = rw (f, e)
+              (sym (List·getD-eq-default (rowAt t a) [] h));
+        }
 
     -- what `fields_at` tells of each of the first five fields
     pub field-part : Part t a i (fieldsAt t a)
-    field-part = elim (decLt i (length (rowAt t a))) [ yes h ↦ told-part h | no h ↦ no-part (omega arith) ]
+    field-part =
+        elim (decLt i (length (rowAt t a))) [ yes h ↦ told-part h | no h ↦ no-part (omega arith) ]
 
   -- the next line begins behind this one
   pub next-line : 0 < length (rowAt t a) → fieldsAt t a .next ≡ a + span (rowAt t a)

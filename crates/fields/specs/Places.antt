@@ -10,7 +10,8 @@ use lib.ListN.{length, getD, drop, length-drop}
 use lib.Seq.{drop-drop, getD-drop}
 use Rattle.grammar.specs.Words.{lf}
 use Rattle.grammar.specs.Rows.{rows, front, fieldAt, wordEnd, rowAt}
-use Rattle.fields.specs.Rows.{added, runs, ends, parts, Some, some-field, lf-some, added-row, added-tail}
+use Rattle.fields.specs.Rows.{added, runs, ends, parts, Some, some-field}
+use Rattle.fields.specs.Rows.{lf-some, added-row, added-tail}
 
 -- ---- the field at a place, and the byte behind it
 module _ (t : List ℕ) (a : ℕ) where
@@ -22,7 +23,8 @@ module _ (t : List ℕ) (a : ℕ) where
   unfolding wordEnd fieldAt
   bytes-behind =
       drop-drop (suc (length (front (drop a t)))) a t
-      ∙ ap (λ n. drop n t) (add-suc a (length (front (drop a t))) ∙ sym (add-one (a + length (front (drop a t)))))
+      ∙ ap (λ n. drop n t) (add-suc a (length (front (drop a t)))
+      ∙ sym (add-one (a + length (front (drop a t)))))
 
   inside : wordEnd t a < length t → length (front (drop a t)) < length (drop a t)
   unfolding wordEnd fieldAt
@@ -67,7 +69,8 @@ module _ (t : List ℕ) (a : ℕ) where
         (getD t (wordEnd t a) 0 ≡ lf → ⊥) → 0 < length (rowAt t (wordEnd t a + 1)) →
         rowAt t a ≡ fieldAt t a ∷ rowAt t (wordEnd t a + 1)
     unfolding rowAt
-    row-parts e s = rw (line-parts t a h e) (added-row (fieldAt t a) (rows (drop (wordEnd t a + 1) t)) s)
+    row-parts e s =
+        rw (line-parts t a h e) (added-row (fieldAt t a) (rows (drop (wordEnd t a + 1) t)) s)
 
     pub row-lost :
         (getD t (wordEnd t a) 0 ≡ lf → ⊥) → rowAt t (wordEnd t a + 1) ≡ [] → rowAt t a ≡ []
@@ -78,8 +81,10 @@ module _ (t : List ℕ) (a : ℕ) where
         go (inl n) = rw (line-parts t a h e, n)
         go (inr s) = absurd (omega (arith, ap length z))
 
-    pub rows-behind : (getD t (wordEnd t a) 0 ≡ lf → ⊥) → drop 1 (rows (drop a t)) ≡ drop 1 (rows (drop (wordEnd t a + 1) t))
-    rows-behind e = rw (line-parts t a h e) (added-tail (fieldAt t a) (rows (drop (wordEnd t a + 1) t)))
+    pub rows-behind : (getD t (wordEnd t a) 0 ≡ lf → ⊥)
+        → drop 1 (rows (drop a t)) ≡ drop 1 (rows (drop (wordEnd t a + 1) t))
+    rows-behind e =
+        rw (line-parts t a h e) (added-tail (fieldAt t a) (rows (drop (wordEnd t a + 1) t)))
 
   -- in a text whose last byte is an LF each place below its end begins a line
   pub row-some : a < length t → getD t (length t - 1) 0 ≡ lf → 0 < length (rowAt t a)

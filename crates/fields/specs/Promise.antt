@@ -23,7 +23,8 @@ empty : (fs : List (List ℕ)) → (0 < length fs → ⊥) → fs ≡ []
 empty [] n = refl
 empty (f ∷ fs) n = absurd (n (omega arith))
 
-module _ (t : List ℕ) (at : ℕ) (l : Fields) (f : List ℕ) (fs : List (List ℕ)) (e : rowAt t at ≡ f ∷ fs) (h : wordEnd t at < length t) where
+module _ (t : List ℕ) (at : ℕ) (l : Fields) (f : List ℕ) (fs : List (List ℕ))
+    (e : rowAt t at ≡ f ∷ fs) (h : wordEnd t at < length t) where
   spans-last : getD t (wordEnd t at) 0 ≡ lf → oneMore l at (wordEnd t at) ≡ spans at (f ∷ fs) l
   unfolding spans
   spans-last b = sym (ap (λ r. spans at r l) (sym e ∙ row-ends t at h b) ∙ spans-one t at l [])
@@ -46,7 +47,8 @@ module _ (t : List ℕ) (at : ℕ) (l : Fields) (f : List ℕ) (fs : List (List 
 
 module _ (t : List ℕ) (a : ℕ) where
   told :
-      (r : List (List ℕ)) (at : ℕ) (l : Fields) → rowAt t at ≡ r → 0 < length r → Before t a l at → Told t a (spans at r l)
+      (r : List (List ℕ)) (at : ℕ) (l : Fields) → rowAt t at ≡ r → 0 < length r → Before t a l at
+      → Told t a (spans at r l)
   told [] at l e s g = absurd (omega arith)
   told (f ∷ fs) at l e s g = elim (decLt (wordEnd t at) (length t)) [
     | no h ↦ absurd (omega (arith, ap length (sym e ∙ row-runs t at (omega arith))))
@@ -56,11 +58,13 @@ module _ (t : List ℕ) (a : ℕ) where
           let s = tail-some t at l f fs e h b in
           let i = tail-is t at l f fs e h b in
           subst (Told t a) (spans-more t at l f fs e h b)
-          (told fs (wordEnd t at + 1) (oneMore l at (wordEnd t at)) i (rw i at s) (before-more t a l at g h b s))
+          (told fs (wordEnd t at + 1) (oneMore l at (wordEnd t at)) i (rw i at s)
+          (before-more t a l at g h b s))
     ]
   ]
 
   -- where an ended line begins at place a, `fields_at` tells its fields
   pub fields-told : length t ≤ 65535 → 0 < length (rowAt t a) → Told t a (fieldsAt t a)
   unfolding fieldsAt
-  fields-told h s = rw (le-ltb 65535 (length t) h) (told (rowAt t a) a noFields refl s (before-none t a))
+  fields-told h s =
+      rw (le-ltb 65535 (length t) h) (told (rowAt t a) a noFields refl s (before-none t a))

@@ -16,7 +16,8 @@ unfoldable pub added : List ℕ → List (List (List ℕ)) → List (List (List 
 added w [] = []
 added w (r ∷ rs) = (w ∷ r) ∷ rs
 
-grown-added : (x : ℕ) (w : List ℕ) (rs : List (List (List ℕ))) → grown x (added w rs) ≡ added (x ∷ w) rs
+grown-added : (x : ℕ) (w : List ℕ) (rs : List (List (List ℕ)))
+    → grown x (added w rs) ≡ added (x ∷ w) rs
 unfolding grown added
 grown-added x w [] = refl
 grown-added x w (r ∷ rs) = refl
@@ -51,7 +52,8 @@ runs (x ∷ xs) = go (eqb x lf) (eqb x tab) refl refl (runs xs)
     go true b p q ih h = let z : suc (length xs) ≤ 0 = (rw p at h) in absurd (omega arith)
     go false true p q ih h = let z : suc (length xs) ≤ 0 = (rw (p, q) at h) in absurd (omega arith)
     go false false p q ih h =
-        let g : suc (length xs) ≤ suc (length (front xs)) = (rw (p, q) at h) in rw (p, q, ih (omega arith))
+        let g : suc (length xs) ≤ suc (length (front xs)) =
+        (rw (p, q) at h) in rw (p, q, ih (omega arith))
 
 pub ends : (xs : List ℕ) → Ends xs
 unfolding front rows grown
@@ -82,12 +84,14 @@ parts (x ∷ xs) = go (eqb x lf) (eqb x tab) refl refl (parts xs)
 
 -- ---- a line is never without a field
 
-parted-some : (rs : List (List (List ℕ))) → 0 < length (getD rs 0 []) → 0 < length (getD (parted rs) 0 [])
+parted-some : (rs : List (List (List ℕ))) → 0 < length (getD rs 0 [])
+    → 0 < length (getD (parted rs) 0 [])
 unfolding parted
 parted-some [] h = absurd (omega arith)
 parted-some (r ∷ rs) h = omega arith
 
-grown-some : (x : ℕ) (rs : List (List (List ℕ))) → 0 < length (getD rs 0 []) → 0 < length (getD (grown x rs) 0 [])
+grown-some : (x : ℕ) (rs : List (List (List ℕ))) → 0 < length (getD rs 0 [])
+    → 0 < length (getD (grown x rs) 0 [])
 unfolding grown
 grown-some x [] h = absurd (omega arith)
 grown-some x ([] ∷ rs) h = absurd (omega arith)
@@ -108,7 +112,8 @@ some-field (x ∷ xs) = go (eqb x lf) (eqb x tab) refl refl (some-field xs)
     go false false p q (inl e) = inl (rw (p, q, e))
     go false false p q (inr h) = inr (rw (p, q) (grown-some x (rows xs) h))
 
-pub lf-some : (xs : List ℕ) (i : ℕ) → i < length xs → getD xs i 0 ≡ lf → 0 < length (getD (rows xs) 0 [])
+pub lf-some : (xs : List ℕ) (i : ℕ) → i < length xs → getD xs i 0 ≡ lf
+    → 0 < length (getD (rows xs) 0 [])
 unfolding rows
 lf-some [] i h e = absurd (omega arith)
 lf-some (x ∷ xs) zero h e = rw (eq-eqb x lf e) (omega arith)
@@ -121,12 +126,14 @@ lf-some (x ∷ xs) (suc i) h e = go (eqb x lf) (eqb x tab) refl refl (lf-some xs
     go false true p q ih = rw (p, q) (parted-some (rows xs) ih)
     go false false p q ih = rw (p, q) (grown-some x (rows xs) ih)
 
-pub first-row : (rs : List (List (List ℕ))) → 0 < length (getD rs 0 []) → rs ≡ getD rs 0 [] ∷ drop 1 rs
+pub first-row : (rs : List (List (List ℕ))) → 0 < length (getD rs 0 [])
+    → rs ≡ getD rs 0 [] ∷ drop 1 rs
 first-row [] h = absurd (omega arith)
 first-row (r ∷ rs) h = refl
 
 pub added-row :
-    (w : List ℕ) (rs : List (List (List ℕ))) → 0 < length (getD rs 0 []) → getD (added w rs) 0 [] ≡ w ∷ getD rs 0 []
+    (w : List ℕ) (rs : List (List (List ℕ))) → 0 < length (getD rs 0 [])
+    → getD (added w rs) 0 [] ≡ w ∷ getD rs 0 []
 unfolding added
 added-row w [] h = absurd (omega arith)
 added-row w (r ∷ rs) h = refl

@@ -35,6 +35,6 @@ unfoldable pub span : List (List ℕ) → ℕ
 span [] = 0
 span (f ∷ fs) = length f + 1 + span fs
 
--- the fields of the line that begins at place a; none where no ended line begins there, or the text is too long
+-- the fields of the line at place a; none where no ended line is there or the text is too long
 unfoldable pub fieldsAt : List ℕ → ℕ → Fields
 fieldsAt t a = cond (ltb 65535 (length t)) noFields (spans a (rowAt t a) noFields)

@@ -5,7 +5,7 @@ ghost use Rattle.grammar.specs.Words.{same as sameBytes};
 ghost use Rattle.grammar.specs.Rows.{wordEnd};
 ghost use Rattle.fields.specs.Spans.{noFields, oneMore, fieldsAt};
 
-// The fields of one line: where each of the first five begins and ends, how many there are, where the next line begins.
+// A line's fields: where the first five begin and end, how many there are, where the next line is.
 pub struct Fields {
     pub from: [u16; 5],
     pub to: [u16; 5],
@@ -30,7 +30,7 @@ pub fn same(a: &[u8], b: &[u8]) -> bool
     true
 }
 
-// The place of the first tab or LF from place a on; else the end of the text, or a where that is behind it.
+// The first tab or LF from place a on; else the end of the text, or a where that is behind it.
 pub fn word_end(text: &[u8], a: usize) -> usize
     ensures { λ r. ⌜ r ≡ wordEnd (now (text .entry)) a ⌝ }
 {
@@ -79,7 +79,7 @@ impl Fields {
     }
 }
 
-// The fields of the line that begins at place a; none where no ended line begins there or the text passes 65,535 bytes.
+// The fields of the line at place a; none where no ended line is there or above 65,535 bytes.
 pub fn fields_at(text: &[u8], a: usize) -> Fields
     ensures { λ r. ⌜ r ≡ fieldsAt (now (text .entry)) a ⌝ }
 {

@@ -10,7 +10,8 @@ use lib.ListN.{length, getD}
 use lib.Dec.{eqb, ltb}
 use borrow.Author.Tests.{eqb-true, eq-eqb, ne-eqb, lt-ltb, le-ltb, le-leb, lt-leb}
 use Rattle.grammar.specs.Rows.{rowAt, word, wordEnd}
-use Rattle.grammar.specs.Lines.{Outcome, faulty, isName, refuse, refused, unitLine, outLine, inLine, feedLine, joinLine}
+use Rattle.grammar.specs.Lines.{Outcome, faulty, isName, refuse, refused}
+use Rattle.grammar.specs.Lines.{unitLine, outLine, inLine, feedLine, joinLine}
 use Rattle.grammar.specs.Draft.{Draft}
 use Rattle.grammar.specs.Lexed.{Lexed}
 use Rattle.lines.specs.Took.{shapeOf}
@@ -18,7 +19,8 @@ use Rattle.lines.specs.Took.{shapeOf}
 -- ---- names one after the other
 
 -- the names before are good and this one is not
-pub faulty-first : (f : List (List ℕ)) (i n : ℕ) → faulty f i ≡ 0 → isName (word f (i + 1)) ≡ false → i < n
+pub faulty-first : (f : List (List ℕ)) (i n : ℕ) → faulty f i ≡ 0 → isName (word f (i + 1)) ≡ false
+    → i < n
     → i + 1 ≡ faulty f n
 unfolding faulty
 faulty-first f i zero z b h = absurd (omega arith)
@@ -33,7 +35,8 @@ faulty-first f i (suc n) z b h = elim (decLt i n) [
     here : n ≡ i → i + 1 ≡ faulty f (suc n)
     here e = sym (rw (e, z, ← add-one i, b))
 
-pub faulty-on : (f : List (List ℕ)) (i : ℕ) → faulty f i ≡ 0 → isName (word f (i + 1)) ≡ true → faulty f (i + 1) ≡ 0
+pub faulty-on : (f : List (List ℕ)) (i : ℕ) → faulty f i ≡ 0 → isName (word f (i + 1)) ≡ true
+    → faulty f (i + 1) ≡ 0
 unfolding faulty
 faulty-on f i z b = rw (add-one i) (rw (z, ← add-one i, b))
 
@@ -64,10 +67,12 @@ module _ (w : List ℕ) where
   a-name n h = rw (le-leb (length w) 16 h, lt-ltb 0 (length w) (omega arith))
 
 -- a field's size is the distance of its ends
-pub field-size : (t : List ℕ) (a : ℕ) (from to : List ℕ) (count next : ℕ) → Lexed t a from to count next
+pub field-size : (t : List ℕ) (a : ℕ) (from to : List ℕ) (count next : ℕ)
+    → Lexed t a from to count next
     → (i : ℕ) → i < 5 → i < count → getD to i 0 ≡ getD from i 0 + length (word (rowAt t a) i)
 unfolding wordEnd
-field-size t a from to count next l i h g = l .ends i h g ∙ ap (λ w. getD from i 0 + length w) (l .words i h g)
+field-size t a from to count next l i h g =
+    l .ends i h g ∙ ap (λ w. getD from i 0 + length w) (l .words i h g)
 
 pub faulty-none : (f : List (List ℕ)) (i n : ℕ) → i ≤ n → n ≤ i → faulty f i ≡ 0 → 0 ≡ faulty f n
 faulty-none f i n h g z = sym (ap (faulty f) (let e : n ≡ i = omega arith in e) ∙ z)
@@ -79,7 +84,8 @@ module _ (f : List (List ℕ)) (count names k : ℕ) (long : k ≡ length f) whe
   unfolding shapeOf
   shape-count n = rw (ne-eqb (length f) count (λ e. n (long ∙ e)))
 
-  pub shape-name : (b : ℕ) → k ≡ count → b ≡ faulty f names → (b ≡ 0 → ⊥) → 25 ≡ shapeOf f count names
+  pub shape-name : (b : ℕ) → k ≡ count → b ≡ faulty f names → (b ≡ 0 → ⊥)
+      → 25 ≡ shapeOf f count names
   unfolding shapeOf
   shape-name b e g n = rw (eq-eqb (length f) count (sym long ∙ e), ← g, lt-ltb 0 b (omega arith))
 
@@ -105,11 +111,13 @@ module _ (f : List (List ℕ)) (count names b : ℕ) (e : b ≡ shapeOf f count 
       go true p true q r = absurd (omega arith)
 
   pub shape-stops : (d : Draft) (o : Outcome) → (b ≡ 0 → ⊥)
-      → refused b d ≡ refuse (not (eqb (length f) count)) 24 d (refuse (ltb 0 (faulty f names)) 25 d o)
+      → refused b d ≡ refuse (not (eqb (length f) count)) 24 d
+      (refuse (ltb 0 (faulty f names)) 25 d o)
   unfolding shapeOf refuse
   shape-stops d o n = go (not (eqb (length f) count)) (ltb 0 (faulty f names)) e
     where
-      go : (x y : Bool) → _≡_ {A = ℕ} b (cond x 24 (cond y 25 0)) → refused b d ≡ cond x (refused 24 d) (cond y (refused 25 d) o)
+      go : (x y : Bool) → _≡_ {A = ℕ} b (cond x 24 (cond y 25 0))
+          → refused b d ≡ cond x (refused 24 d) (cond y (refused 25 d) o)
       go true y q = rw q
       go false true q = rw q
       go false false q = absurd (n q)
@@ -137,7 +145,8 @@ module _ (d : Draft) (f : List (List ℕ)) (k b : ℕ) (n : b ≡ 0 → ⊥) whe
   join-stops e = shape-stops f 5 4 b e d _ n
 
 -- a line that passes 24 has its fields
-pub has-field : (t : List ℕ) (a : ℕ) (from to : List ℕ) (k next : ℕ) → Lexed t a from to k next → (count names b i : ℕ)
+pub has-field : (t : List ℕ) (a : ℕ) (from to : List ℕ) (k next : ℕ) → Lexed t a from to k next
+    → (count names b i : ℕ)
     → b ≡ shapeOf (rowAt t a) count names → b ≡ 0 → i < count → i < k
 has-field t a from to k next l count names b i e z h =
     omega (arith, l .count-is, shape-lets (rowAt t a) count names b e z .long)

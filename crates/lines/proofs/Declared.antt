@@ -8,7 +8,8 @@ use lib.ListN.{getD}
 use borrow.Author.Tests.{eq-eqb, ne-eqb}
 use Rattle.search.specs.Least.{leastFrom}
 use Rattle.grammar.specs.Rows.{rowAt, word, fieldAt}
-use Rattle.grammar.specs.Draft.{Draft, Input, unjoined, unitNamed, outputNamed, inputNamed, addUnit, addOutput, addInput}
+use Rattle.grammar.specs.Draft.{Draft, Input, unjoined, unitNamed, outputNamed}
+use Rattle.grammar.specs.Draft.{inputNamed, addUnit, addOutput, addInput}
 use Rattle.grammar.specs.Lines.{refused, refuse, taken, unitLine, outLine, inLine, kindOf}
 use Rattle.fields.specs.declared.Fields.{Fields}
 use Rattle.notes.specs.Layout.{outputsBase, inputsBase}
@@ -17,12 +18,15 @@ use Rattle.notes.specs.Notes.{draftOf, Fit, named}
 use Rattle.notes.specs.Ranks.{Between, Spotted}
 use Rattle.notes.specs.Noted.{unit, output, input}
 use Rattle.notes.proofs.Slots.{units-are, outputs-are, inputs-are}
-use Rattle.notes.proofs.Found.{unit-found, unit-there, unit-new, output-there, output-new, input-there, input-new}
+use Rattle.notes.proofs.Found.{unit-found, unit-there, unit-new, output-there}
+use Rattle.notes.proofs.Found.{output-new, input-there, input-new}
 use Rattle.lines.specs.Took.{Told, nameEntry, unitEntry, outEntry, inEntry, Took}
 use Rattle.lines.proofs.Counted.{Lets}
-use Rattle.lines.proofs.Outcomes.{takes, declared, is-unit, no-unit, is-output, no-output, is-input, no-input, full, space}
+use Rattle.lines.proofs.Outcomes.{takes, declared, is-unit, no-unit, is-output}
+use Rattle.lines.proofs.Outcomes.{no-output, is-input, no-input, full, space}
 
-module _ (t p s : List ℕ) (c : Counts) (fit : Fit t p s c) (a : ℕ) (l : Fields) (told : Told t a l) (k : ℕ) where
+module _ (t p s : List ℕ) (c : Counts) (fit : Fit t p s c) (a : ℕ) (l : Fields) (told : Told t a l)
+    (k : ℕ) where
   abbrev d : Draft
   d = draftOf t p s c
 
@@ -41,7 +45,12 @@ module _ (t p s : List ℕ) (c : Counts) (fit : Fit t p s c) (a : ℕ) (l : Fiel
       (o : Spotted t p s 0 (c .units) 0 w i b) where
     pub unit-26 : b ≡ true → refused 26 d ≡ unitLine d f
     unfolding unitLine refuse
-    unit-26 z = rw (h .counted, h .named, ← e, is-unit t p s c (unitNamed d w) (unit-there t p s c fit w i b o z))
+    unit-26 z = rw (
+      h .counted,
+      h .named,
+      ← e,
+      is-unit t p s c (unitNamed d w) (unit-there t p s c fit w i b o z),
+    )
 
     module _ (z : b ≡ false) where
       pub unit-29 : 32 ≤ c .units → refused 29 d ≡ unitLine d f
@@ -73,7 +82,8 @@ module _ (t p s : List ℕ) (c : Counts) (fit : Fit t p s c) (a : ℕ) (l : Fiel
       unit-takes g =
           declared t p s c k (unitEntry (l .from)) (unitLine d f) (nameEntry 1 0 0 (from 1) i) _
           (unit (nameEntry 1 0 0 (from 1) i) refl refl g
-          (subst (λ v. Between t p s 0 (c .units) 0 v i i) (e ∙ sym (begins 2 1 1 h (omega arith) (omega arith))) (o .free z)))
+          (subst (λ v. Between t p s 0 (c .units) 0 v i i)
+          (e ∙ sym (begins 2 1 1 h (omega arith) (omega arith))) (o .free z)))
           (unit-more g) refl
 
   -- ---- `out`, unit, name
@@ -114,7 +124,8 @@ module _ (t p s : List ℕ) (c : Counts) (fit : Fit t p s c) (a : ℕ) (l : Fiel
               full _ _ 96 (outputs-are t p s c) x,
             )
 
-        out-more : c .outputs < 96 → taken (addOutput d (record { owner = u; name = fieldAt t (from 2) })) ≡ outLine d f
+        out-more : c .outputs < 96
+            → taken (addOutput d (record { owner = u; name = fieldAt t (from 2) })) ≡ outLine d f
         unfolding outLine refuse
         out-more x =
             rw (
@@ -129,12 +140,14 @@ module _ (t p s : List ℕ) (c : Counts) (fit : Fit t p s c) (a : ℕ) (l : Fiel
             )
 
         pub out-takes : c .outputs < 96
-            → Took t p s c k (outEntry d f (l .from)) (takes (nameEntry 2 u 0 (from 2) i)) (outLine d f)
+            → Took t p s c k (outEntry d f (l .from)) (takes (nameEntry 2 u 0 (from 2) i))
+            (outLine d f)
         unfolding outEntry
         out-takes x =
             declared t p s c k (outEntry d f (l .from)) (outLine d f) (nameEntry 2 u 0 (from 2) i) _
             (output (nameEntry 2 u 0 (from 2) i) refl x
-            (subst (λ y. Between t p s outputsBase (c .outputs) u y i i) (e ∙ sym (begins 3 2 2 h (omega arith) (omega arith))) (o .free z)))
+            (subst (λ y. Between t p s outputsBase (c .outputs) u y i i)
+            (e ∙ sym (begins 3 2 2 h (omega arith) (omega arith))) (o .free z)))
             (out-more x) (ap (λ y. nameEntry 2 y 0 (from 2) i) out-unit)
 
   -- ---- `in`, unit, name, `delayed` or `reactive`
@@ -153,7 +166,8 @@ module _ (t p s : List ℕ) (c : Counts) (fit : Fit t p s c) (a : ℕ) (l : Fiel
 
       pub in-27 : c .units ≤ u → refused 27 d ≡ inLine d k f
       unfolding inLine refuse
-      in-27 g = rw (h .counted, h .named, ← in-kind, ne-eqb kind 2 some, ← in-unit, no-unit t p s c u g)
+      in-27 g =
+          rw (h .counted, h .named, ← in-kind, ne-eqb kind 2 some, ← in-unit, no-unit t p s c u g)
 
       module _ (g : u < c .units) (w : List ℕ) (e : w ≡ word f 2) (i : ℕ) (b : Bool)
           (o : Spotted t p s inputsBase (c .inputs) u w i b) where
@@ -188,7 +202,13 @@ module _ (t p s : List ℕ) (c : Counts) (fit : Fit t p s c) (a : ℕ) (l : Fiel
               )
 
           abbrev new : Input
-          new = record { owner = u; name = fieldAt t (from 2); kind = kind; source = unjoined; line = k }
+          new = record {
+            owner = u;
+            name = fieldAt t (from 2);
+            kind = kind;
+            source = unjoined;
+            line = k;
+          }
 
           in-more : c .inputs < 96 → taken (addInput d new) ≡ inLine d k f
           unfolding inLine refuse
@@ -211,9 +231,12 @@ module _ (t p s : List ℕ) (c : Counts) (fit : Fit t p s c) (a : ℕ) (l : Fiel
           in-entry = rw (← in-unit, ← in-kind)
 
           pub in-takes : c .inputs < 96
-              → Took t p s c k (inEntry d f (l .from)) (takes (nameEntry 3 u kind (from 2) i)) (inLine d k f)
+              → Took t p s c k (inEntry d f (l .from)) (takes (nameEntry 3 u kind (from 2) i))
+              (inLine d k f)
           in-takes y =
-              declared t p s c k (inEntry d f (l .from)) (inLine d k f) (nameEntry 3 u kind (from 2) i) _
+              declared t p s c k (inEntry d f (l .from)) (inLine d k f)
+              (nameEntry 3 u kind (from 2) i) _
               (input (nameEntry 3 u kind (from 2) i) refl y
-              (subst (λ n. Between t p s inputsBase (c .inputs) u n i i) (e ∙ sym (begins 4 2 2 h (omega arith) (omega arith))) (o .free z)))
+              (subst (λ n. Between t p s inputsBase (c .inputs) u n i i)
+              (e ∙ sym (begins 4 2 2 h (omega arith) (omega arith))) (o .free z)))
               (in-more y) in-entry

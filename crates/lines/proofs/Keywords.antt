@@ -9,8 +9,10 @@ use Rattle.grammar.specs.Quoted.{ascii}
 use Rattle.grammar.specs.Words.{same}
 use Rattle.grammar.specs.Rows.{word}
 use Rattle.grammar.specs.Draft.{Draft}
-use Rattle.grammar.specs.Lines.{Outcome, refused, line, unitLine, outLine, inLine, feedLine, joinLine}
-use Rattle.lines.specs.Took.{keywordOf, unitEntry, outEntry, inEntry, feedEntry, joinEntry, entryOf}
+use Rattle.grammar.specs.Lines.{Outcome, refused, line, unitLine}
+use Rattle.grammar.specs.Lines.{outLine, inLine, feedLine, joinLine}
+use Rattle.lines.specs.Took.{keywordOf, unitEntry, outEntry}
+use Rattle.lines.specs.Took.{inEntry, feedEntry, joinEntry, entryOf}
 
 -- what is done for keyword number k
 unfoldable pub byKeyword : Draft → ℕ → List (List ℕ) → ℕ → Outcome
@@ -31,7 +33,8 @@ module _ (d : Draft) (n : ℕ) (f : List (List ℕ)) where
   by-keyword = go (is "unit") (is "out") (is "in") (is "feed") (is "join")
     where
       go : (a b c e g : Bool)
-          → cond a (unitLine d f) (cond b (outLine d f) (cond c (inLine d n f) (cond e (feedLine d f)
+          → cond a (unitLine d f)
+          (cond b (outLine d f) (cond c (inLine d n f) (cond e (feedLine d f)
           (cond g (joinLine d f) (refused 24 d)))))
           ≡ byKeyword d n f (cond a 1 (cond b 2 (cond c 3 (cond e 4 (cond g 5 0)))))
       go true b c e g = refl

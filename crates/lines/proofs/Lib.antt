@@ -1,3 +1,4 @@
+-- Laws of one line: its fields, refusals and ports; and what the contract of `line` settles.
 pub mod Counted
 pub mod Outcomes
 pub mod Declared

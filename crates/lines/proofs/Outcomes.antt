@@ -1,4 +1,4 @@
--- From what the notes hold to what a line's definition asks: refusals, a line taken, the tests of numbers.
+-- From what the notes hold to what a line's definition asks: refusals, a line taken, tests.
 use Prim.Native.Nat.{ℕ, _≤_, _<_}
 use mathlib.Core.Path.{_≡_, refl, sym, ap, subst, _∙_}
 use mathlib.Core.Bool.{true, false}
@@ -30,7 +30,8 @@ takes e = record { number = 0; field = 0; entry = e }
 
 module _ (t p s : List ℕ) (c : Counts) (k : ℕ) (entry : ℕ → Entry) (o : Outcome) where
   -- refused, at whatever field
-  pub stops : (n x : ℕ) (r : Taken) → r ≡ refusal n x → (n ≡ 0 → ⊥) → refused n (draftOf t p s c) ≡ o
+  pub stops : (n x : ℕ) (r : Taken) → r ≡ refusal n x → (n ≡ 0 → ⊥)
+      → refused n (draftOf t p s c) ≡ o
       → Took t p s c k entry r o
   unfolding refused
   stops n x r e z q =
@@ -42,7 +43,8 @@ module _ (t p s : List ℕ) (c : Counts) (k : ℕ) (entry : ℕ → Entry) (o : 
       })
 
   -- refused for its shape
-  pub shape-refused : (f : List (List ℕ)) (count names : ℕ) (r : Taken) → Shaped f count names r → (r .number ≡ 0 → ⊥)
+  pub shape-refused : (f : List (List ℕ)) (count names : ℕ) (r : Taken) → Shaped f count names r
+      → (r .number ≡ 0 → ⊥)
       → refused (r .number) (draftOf t p s c) ≡ o → Took t p s c k entry r o
   unfolding refused
   shape-refused f count names r h z q = record {
@@ -53,7 +55,8 @@ module _ (t p s : List ℕ) (c : Counts) (k : ℕ) (entry : ℕ → Entry) (o : 
   }
 
   -- taken
-  pub declared : (e : Entry) (d : Draft) → Declares t p s c k e d → taken d ≡ o → e ≡ entry (e .rank)
+  pub declared : (e : Entry) (d : Draft) → Declares t p s c k e d → taken d ≡ o
+      → e ≡ entry (e .rank)
       → Took t p s c k entry (takes e) o
   unfolding taken
   declared e d h q z = record {
@@ -65,9 +68,11 @@ module _ (t p s : List ℕ) (c : Counts) (k : ℕ) (entry : ℕ → Entry) (o : 
 
 pub handed : {t p s : List ℕ} {c : Counts} {k : ℕ} {x : ℕ → Entry} {r v : Taken} {o : Outcome}
     → r ≡ v → Took t p s c k x v o → Took t p s c k x r o
-handed {t} {p} {s} {c} {k} {x} {r} {v} {o} e h = subst (λ (y : Taken). Took t p s c k x y o) (sym e) h
+handed {t} {p} {s} {c} {k} {x} {r} {v} {o} e h =
+    subst (λ (y : Taken). Took t p s c k x y o) (sym e) h
 
-pub shaped : (f : List (List ℕ)) (count names n x : ℕ) (r : Taken) → r ≡ refusal n x → n ≡ shapeOf f count names
+pub shaped : (f : List (List ℕ)) (count names n x : ℕ) (r : Taken) → r ≡ refusal n x
+    → n ≡ shapeOf f count names
     → Shaped f count names r
 shaped f count names n x r e q = record {
   number = ap (λ (v : Taken). v .number) e ∙ q;
@@ -81,7 +86,8 @@ retold {t} {p} {s} {c} {k} {x} {y} {r} h g e = record {
   number = h .number ∙ ap (λ (v : Outcome). v .number) e;
   none = h .none;
   is = λ z. h .is z ∙ g (r .entry .rank);
-  declares = λ z. subst (Declares t p s c k (r .entry)) (ap (λ (v : Outcome). v .draft) e) (h .declares z);
+  declares =
+      λ z. subst (Declares t p s c k (r .entry)) (ap (λ (v : Outcome). v .draft) e) (h .declares z);
 }
 
 -- ---- what is declared, and what is not
@@ -128,7 +134,8 @@ space n k m e h = lt-leb m n (omega arith)
 
 -- ---- a field as the stretch between its ends
 
-module _ (t : List ℕ) (a : ℕ) (l : Fields) (told : Told t a l) (i b e : ℕ) (h : i < 5) (g : i < l .count)
+module _ (t : List ℕ) (a : ℕ) (l : Fields) (told : Told t a l) (i b e : ℕ) (h : i < 5)
+    (g : i < l .count)
     (p : b ≡ getD (l .from) i 0) (q : e ≡ getD (l .to) i 0) where
   pub word-is : stretch t b e ≡ word (rowAt t a) i
   word-is = rw (p, q, told .ends i h g) (stretch-field t (getD (l .from) i 0)) ∙ told .words i h g

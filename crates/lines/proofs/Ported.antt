@@ -11,12 +11,14 @@ use Rattle.notes.specs.Notes.{named}
 use Rattle.lines.specs.declared.Port.{Port}
 use Rattle.lines.specs.Took.{Ported}
 
-module _ (t p s : List ℕ) (c : Counts) (f : List (List ℕ)) (i b n : ℕ) (v : List ℕ) (e : v ≡ word f i) (u : ℕ)
+module _ (t p s : List ℕ) (c : Counts) (f : List (List ℕ)) (i b n : ℕ) (v : List ℕ)
+    (e : v ≡ word f i) (u : ℕ)
     (q : u ≡ leastFrom (named t p s 0 0 v) (c .units) 0) where
   unit-is : u ≡ leastFrom (named t p s 0 0 (word f i)) (c .units) 0
   unit-is = q ∙ ap (λ w. leastFrom (named t p s 0 0 w) (c .units) 0) e
 
-  pub port-no-unit : c .units ≤ u → Ported t p s c f i b n (record { unit = u; number = 0; field = i + 1 })
+  pub port-no-unit : c .units ≤ u
+      → Ported t p s c f i b n (record { unit = u; number = 0; field = i + 1 })
   port-no-unit h = record { unit = unit-is; none = λ z. inl h; some = λ z. absurd (omega arith) }
 
   module _ (h : u < c .units) (w : List ℕ) (g : w ≡ word f (i + 1)) (x : ℕ)
@@ -32,4 +34,8 @@ module _ (t p s : List ℕ) (c : Counts) (f : List (List ℕ)) (i b n : ℕ) (v 
     }
 
     pub port-found : x < n → Ported t p s c f i b n (record { unit = u; number = x; field = 0 })
-    port-found k = record { unit = unit-is; none = λ z. absurd (z mathlib.Core.Path.refl); some = λ z. (h, (k, port-is)) }
+    port-found k = record {
+      unit = unit-is;
+      none = λ z. absurd (z mathlib.Core.Path.refl);
+      some = λ z. (h, (k, port-is));
+    }

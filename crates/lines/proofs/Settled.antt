@@ -1,5 +1,5 @@
--- The contract of the public function, as callers read it: where the notes fit and the fields are told right, one number
--- is permitted and one entry; the field of a refusal is left open.
+-- Where the notes fit and the fields are told right, the contract of `line` permits one number and
+-- one entry; the field of a refusal is left open.
 use Prim.Native.Nat.{ℕ}
 use mathlib.Core.Path.{_≡_, refl, sym, ap, ap₂, _∙_}
 use mathlib.Core.Bool.{Bool, true, false, cond}
@@ -16,7 +16,8 @@ use Rattle.notes.specs.Notes.{Fit}
 use Rattle.notes.specs.Noted.{noEntry}
 use Rattle.notes.proofs.Declaring.{rank-one}
 use Rattle.lines.specs.declared.Taken.{Taken}
-use Rattle.lines.specs.Took.{keywordOf, unitEntry, outEntry, inEntry, feedEntry, joinEntry, entryOf, Took}
+use Rattle.lines.specs.Took.{keywordOf, unitEntry, outEntry, inEntry}
+use Rattle.lines.specs.Took.{feedEntry, joinEntry, entryOf, Took}
 use Rattle.lines.proofs.line.Kinds as line
 use Rattle.lines.proofs.line.Reads as line-says
 
@@ -26,7 +27,8 @@ pub record Alike (e o : Entry) : Type 0 where
   pub owner : e .owner ≡ o .owner
   pub begin : e .begin ≡ o .begin
 
-entries-alike : (d : Draft) (f : List (List ℕ)) (from : List ℕ) (i j : ℕ) → Alike (entryOf d f from i) (entryOf d f from j)
+entries-alike : (d : Draft) (f : List (List ℕ)) (from : List ℕ) (i j : ℕ)
+    → Alike (entryOf d f from i) (entryOf d f from j)
 unfolding entryOf unitEntry outEntry inEntry feedEntry joinEntry
 entries-alike d f from i j = go (eqb k 1) (eqb k 2) (eqb k 3) (eqb k 4) (eqb k 5)
   where
@@ -36,7 +38,8 @@ entries-alike d f from i j = go (eqb k 1) (eqb k 2) (eqb k 3) (eqb k 4) (eqb k 5
     by : Bool → Bool → Bool → Bool → Bool → ℕ → Entry
     by a b c e g n =
         cond a (unitEntry from n)
-        (cond b (outEntry d f from n) (cond c (inEntry d f from n) (cond e (feedEntry d f n) (cond g (joinEntry d f n) noEntry))))
+        (cond b (outEntry d f from n)
+        (cond c (inEntry d f from n) (cond e (feedEntry d f n) (cond g (joinEntry d f n) noEntry))))
 
     go : (a b c e g : Bool) → Alike (by a b c e g i) (by a b c e g j)
     go true b c e g = record { what = refl; owner = refl; begin = refl }
@@ -46,8 +49,10 @@ entries-alike d f from i j = go (eqb k 1) (eqb k 2) (eqb k 3) (eqb k 4) (eqb k 5
     go false false false false true = record { what = refl; owner = refl; begin = refl }
     go false false false false false = record { what = refl; owner = refl; begin = refl }
 
-module _ (t p s : List ℕ) (c : Counts) (fit : Fit t p s c) (k : ℕ) (d : Draft) (f : List (List ℕ)) (from : List ℕ) (o : Outcome)
-    (x y : Taken) (h : Took t p s c k (entryOf d f from) x o) (g : Took t p s c k (entryOf d f from) y o) where
+module _ (t p s : List ℕ) (c : Counts) (fit : Fit t p s c) (k : ℕ) (d : Draft) (f : List (List ℕ))
+    (from : List ℕ) (o : Outcome)
+    (x y : Taken) (h : Took t p s c k (entryOf d f from) x o)
+    (g : Took t p s c k (entryOf d f from) y o) where
   number-one : x .number ≡ y .number
   number-one = h .number ∙ sym (g .number)
 
@@ -70,6 +75,7 @@ module _ (t p s : List ℕ) (c : Counts) (fit : Fit t p s c) (k : ℕ) (d : Draf
 pub line-settled : SettlesWhere line.ps line.r line-says.Asked line-says.Learnt
     {B = λ κs. ℕ × Entry} (λ κs r. (r .number, r .entry))
 line-settled κs a h x y w v p q = (
-  ap₂ (λ n e. (n, e)) (number-one _ _ _ _ (h .0) _ _ _ _ _ x y p q) (entry-one _ _ _ _ (h .0) _ _ _ _ _ x y p q),
+  ap₂ (λ n e. (n, e)) (number-one _ _ _ _ (h .0) _ _ _ _ _ x y p q)
+      (entry-one _ _ _ _ (h .0) _ _ _ _ _ x y p q),
   refl,
 )

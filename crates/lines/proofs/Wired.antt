@@ -19,8 +19,8 @@ use Rattle.notes.proofs.Found.{unit-found, output-found, input-found}
 use Rattle.lines.specs.declared.Port.{Port}
 use Rattle.lines.specs.Took.{wireEntry, feedEntry, joinEntry, Ported, Took}
 use Rattle.lines.proofs.Counted.{Lets}
-use Rattle.lines.proofs.Outcomes.{takes, declared, full, space, is-unit, no-unit, is-output, no-output}
-use Rattle.lines.proofs.Outcomes.{is-input, no-input, is-feed, no-feed}
+use Rattle.lines.proofs.Outcomes.{takes, declared, full, space, is-unit, no-unit, is-output}
+use Rattle.lines.proofs.Outcomes.{no-output, is-input, no-input, is-feed, no-feed}
 
 module _ (t p s : List ℕ) (c : Counts) (fit : Fit t p s c) (f : List (List ℕ)) (k : ℕ) where
   abbrev d : Draft
@@ -44,7 +44,8 @@ module _ (t p s : List ℕ) (c : Counts) (fit : Fit t p s c) (f : List (List ℕ
         h .named,
         ← feed-unit,
         is-unit t p s c (r .unit) g,
-        no-input t p s c (inputNamed d (r .unit) (word f 2)) (omega (arith, input-found t p s c fit (r .unit) (word f 2))),
+        no-input t p s c (inputNamed d (r .unit) (word f 2))
+            (omega (arith, input-found t p s c fit (r .unit) (word f 2))),
       )
     ]
 
@@ -71,7 +72,8 @@ module _ (t p s : List ℕ) (c : Counts) (fit : Fit t p s c) (f : List (List ℕ
               no-output t p s c y i,
             )
 
-        module _ (i : y < c .outputs) (n : ℕ) (j : n ≡ leastFrom (isFed s (r .number) y) (c .feeds) 0) where
+        module _ (i : y < c .outputs) (n : ℕ)
+            (j : n ≡ leastFrom (isFed s (r .number) y) (c .feeds) 0) where
           feed-is : n ≡ feedOf d (r .number) y
           feed-is = j ∙ feed-found t p s c (r .number) y
 
@@ -109,7 +111,8 @@ module _ (t p s : List ℕ) (c : Counts) (fit : Fit t p s c) (f : List (List ℕ
                   full _ _ 128 (feeds-are t p s c) m,
                 )
 
-            feed-more : c .feeds < 128 → taken (addFeed d (record { input = r .number; output = y })) ≡ feedLine d f
+            feed-more : c .feeds < 128
+                → taken (addFeed d (record { input = r .number; output = y })) ≡ feedLine d f
             unfolding feedLine refuse
             feed-more m =
                 rw (
@@ -150,7 +153,8 @@ module _ (t p s : List ℕ) (c : Counts) (fit : Fit t p s c) (f : List (List ℕ
         h .named,
         ← from-unit,
         is-unit t p s c (r .unit) g,
-        no-output t p s c (outputNamed d (r .unit) (word f 2)) (omega (arith, output-found t p s c fit (r .unit) (word f 2))),
+        no-output t p s c (outputNamed d (r .unit) (word f 2))
+            (omega (arith, output-found t p s c fit (r .unit) (word f 2))),
       )
     ]
 
@@ -183,7 +187,8 @@ module _ (t p s : List ℕ) (c : Counts) (fit : Fit t p s c) (f : List (List ℕ
           is-output t p s c (r .number) (x .some z .1 .0),
           ← to-unit,
           is-unit t p s c (o .unit) g,
-          no-input t p s c (inputNamed d (o .unit) (word f 4)) (omega (arith, input-found t p s c fit (o .unit) (word f 4))),
+          no-input t p s c (inputNamed d (o .unit) (word f 4))
+              (omega (arith, input-found t p s c fit (o .unit) (word f 4))),
         )
       ]
 
@@ -209,7 +214,8 @@ module _ (t p s : List ℕ) (c : Counts) (fit : Fit t p s c) (f : List (List ℕ
               ne-eqb (getD s (sourcesBase + o .number) 0) 255 n,
             )
 
-        join-more : getD s (sourcesBase + o .number) 0 ≡ 255 → taken (addJoin d (o .number) (r .number)) ≡ joinLine d f
+        join-more : getD s (sourcesBase + o .number) 0 ≡ 255
+            → taken (addJoin d (o .number) (r .number)) ≡ joinLine d f
         unfolding joinLine refuse
         join-more n =
             rw (
@@ -232,7 +238,10 @@ module _ (t p s : List ℕ) (c : Counts) (fit : Fit t p s c) (f : List (List ℕ
         join-entry = rw (← from-unit, ← from-output, ← to-unit, ← to-input)
 
         pub join-takes : getD s (sourcesBase + o .number) 0 ≡ 255
-            → Took t p s c k (joinEntry d f) (takes (wireEntry 5 (o .number) (r .number))) (joinLine d f)
+            → Took t p s c k (joinEntry d f) (takes (wireEntry 5 (o .number) (r .number)))
+            (joinLine d f)
         join-takes n =
-            declared t p s c k (joinEntry d f) (joinLine d f) (wireEntry 5 (o .number) (r .number)) _
-            (join (wireEntry 5 (o .number) (r .number)) refl refl (y .some w .1 .0)) (join-more n) join-entry
+            declared t p s c k (joinEntry d f) (joinLine d f)
+            (wireEntry 5 (o .number) (r .number)) _
+            (join (wireEntry 5 (o .number) (r .number)) refl refl (y .some w .1 .0))
+            (join-more n) join-entry

@@ -42,15 +42,16 @@ keywordOf w =
     (cond (same w (ascii "feed")) 4
     (cond (same w (ascii "join")) 5 0))))
 
--- field i names a unit and the field behind it one of its ports, among n names from name b on; or the one or the other is not declared
-pub record Ported (t p s : List ℕ) (c : Counts) (f : List (List ℕ)) (i b n : ℕ) (r : Port) : Type 0 where
+-- field i names a unit and the next one of its ports, of n names from name b on; or one does not
+pub record Ported (t p s : List ℕ) (c : Counts) (f : List (List ℕ)) (i b n : ℕ)
+    (r : Port) : Type 0 where
   pub unit : r .unit ≡ leastFrom (named t p s 0 0 (word f i)) (c .units) 0
   pub none : (r .field ≡ 0 → ⊥) → (c .units ≤ r .unit)
       ⊎ ((r .unit < c .units) × (n ≤ leastFrom (named t p s b (r .unit) (word f (i + 1))) n 0))
   pub some : r .field ≡ 0 → (r .unit < c .units)
       × ((r .number < n) × (r .number ≡ leastFrom (named t p s b (r .unit) (word f (i + 1))) n 0))
 
--- ---- what each line declares, of the draft and the line's fields, which begin at `from`; i is the rank of its name
+-- ---- what each line declares, of the draft and its fields, begun at `from`; i is a name's rank
 
 abbrev pub nameEntry : ℕ → ℕ → ℕ → ℕ → ℕ → Entry
 nameEntry what u kind a i =
@@ -76,7 +77,8 @@ feedEntry d f i =
 
 unfoldable pub joinEntry : Draft → List (List ℕ) → ℕ → Entry
 joinEntry d f i =
-    wireEntry 5 (inputNamed d (unitNamed d (word f 3)) (word f 4)) (outputNamed d (unitNamed d (word f 1)) (word f 2))
+    wireEntry 5 (inputNamed d (unitNamed d (word f 3)) (word f 4))
+    (outputNamed d (unitNamed d (word f 1)) (word f 2))
 
 -- by the line's keyword
 unfoldable pub entryOf : Draft → List (List ℕ) → List ℕ → ℕ → Entry
@@ -88,8 +90,9 @@ entryOf d f from i =
     (cond (eqb k 4) (feedEntry d f i)
     (cond (eqb k 5) (joinEntry d f i) noEntry))))
 
--- the number is the outcome's; where it is 0 the entry is the line's, and declares what makes the outcome's draft
-pub record Took (t p s : List ℕ) (c : Counts) (k : ℕ) (entry : ℕ → Entry) (r : Taken) (o : Outcome) : Type 0 where
+-- the number is the outcome's; where it is 0 the entry is the line's and makes the outcome's draft
+pub record Took (t p s : List ℕ) (c : Counts) (k : ℕ) (entry : ℕ → Entry) (r : Taken)
+    (o : Outcome) : Type 0 where
   pub number : r .number ≡ o .number
   pub none : (r .number ≡ 0 → ⊥) → r .entry ≡ noEntry
   pub is : r .number ≡ 0 → r .entry ≡ entry (r .entry .rank)

@@ -21,7 +21,8 @@ use notes::UNITS;
 // What a line with a name declares: its owner, its rank, its kind, and where it begins.
 fn named(what: u8, owner: usize, rank: usize, kind: u8, begin: u16) -> Taken
     requires { ⌜ (owner < 32) × (rank ≤ 96) ⌝ }
-    ensures { λ r. ⌜ r ≡ record { number = 0; field = 0; entry = nameEntry what owner kind begin rank } ⌝ }
+    ensures { λ r.
+        ⌜ r ≡ record { number = 0; field = 0; entry = nameEntry what owner kind begin rank } ⌝ }
 {
     let entry = Entry {
         what: what,
@@ -53,7 +54,8 @@ pub fn unit_line(
     requires { ⌜ Told (now text) at fields ⌝ }
     ensures { λ r. ⌜ Took (now (text .entry)) (now (places .entry)) (now (slots .entry)) counts line
         (unitEntry (fields .from)) r
-        (unitLine (draftOf (now (text .entry)) (now (places .entry)) (now (slots .entry)) counts) (rowAt (now (text .entry)) at)) ⌝ }
+        (unitLine (draftOf (now (text .entry)) (now (places .entry)) (now (slots .entry)) counts)
+        (rowAt (now (text .entry)) at)) ⌝ }
 {
     let bad = shape(text, at, fields, 2, 1);
     if bad.number != 0 {
@@ -84,8 +86,10 @@ pub fn out_line(
     requires { ⌜ Fit (now text) (now places) (now slots) counts ⌝ }
     requires { ⌜ Told (now text) at fields ⌝ }
     ensures { λ r. ⌜ Took (now (text .entry)) (now (places .entry)) (now (slots .entry)) counts line
-        (outEntry (draftOf (now (text .entry)) (now (places .entry)) (now (slots .entry)) counts) (rowAt (now (text .entry)) at) (fields .from)) r
-        (outLine (draftOf (now (text .entry)) (now (places .entry)) (now (slots .entry)) counts) (rowAt (now (text .entry)) at)) ⌝ }
+        (outEntry (draftOf (now (text .entry)) (now (places .entry)) (now (slots .entry)) counts)
+        (rowAt (now (text .entry)) at) (fields .from)) r
+        (outLine (draftOf (now (text .entry)) (now (places .entry)) (now (slots .entry)) counts)
+        (rowAt (now (text .entry)) at)) ⌝ }
 {
     let bad = shape(text, at, fields, 3, 2);
     if bad.number != 0 {
@@ -135,8 +139,10 @@ pub fn in_line(
     requires { ⌜ Fit (now text) (now places) (now slots) counts ⌝ }
     requires { ⌜ Told (now text) at fields ⌝ }
     ensures { λ r. ⌜ Took (now (text .entry)) (now (places .entry)) (now (slots .entry)) counts line
-        (inEntry (draftOf (now (text .entry)) (now (places .entry)) (now (slots .entry)) counts) (rowAt (now (text .entry)) at) (fields .from)) r
-        (inLine (draftOf (now (text .entry)) (now (places .entry)) (now (slots .entry)) counts) line (rowAt (now (text .entry)) at)) ⌝ }
+        (inEntry (draftOf (now (text .entry)) (now (places .entry)) (now (slots .entry)) counts)
+        (rowAt (now (text .entry)) at) (fields .from)) r
+        (inLine (draftOf (now (text .entry)) (now (places .entry)) (now (slots .entry)) counts) line
+        (rowAt (now (text .entry)) at)) ⌝ }
 {
     let bad = shape(text, at, fields, 4, 2);
     if bad.number != 0 {

@@ -73,8 +73,10 @@ pub fn feed_line(
     requires { ⌜ Fit (now text) (now places) (now slots) counts ⌝ }
     requires { ⌜ Told (now text) at fields ⌝ }
     ensures { λ r. ⌜ Took (now (text .entry)) (now (places .entry)) (now (slots .entry)) counts line
-        (feedEntry (draftOf (now (text .entry)) (now (places .entry)) (now (slots .entry)) counts) (rowAt (now (text .entry)) at)) r
-        (feedLine (draftOf (now (text .entry)) (now (places .entry)) (now (slots .entry)) counts) (rowAt (now (text .entry)) at)) ⌝ }
+        (feedEntry (draftOf (now (text .entry)) (now (places .entry)) (now (slots .entry)) counts)
+        (rowAt (now (text .entry)) at)) r
+        (feedLine (draftOf (now (text .entry)) (now (places .entry)) (now (slots .entry)) counts)
+        (rowAt (now (text .entry)) at)) ⌝ }
 {
     let bad = shape(text, at, fields, 4, 3);
     if bad.number != 0 {
@@ -126,8 +128,10 @@ pub fn join_line(
     requires { ⌜ Fit (now text) (now places) (now slots) counts ⌝ }
     requires { ⌜ Told (now text) at fields ⌝ }
     ensures { λ r. ⌜ Took (now (text .entry)) (now (places .entry)) (now (slots .entry)) counts line
-        (joinEntry (draftOf (now (text .entry)) (now (places .entry)) (now (slots .entry)) counts) (rowAt (now (text .entry)) at)) r
-        (joinLine (draftOf (now (text .entry)) (now (places .entry)) (now (slots .entry)) counts) (rowAt (now (text .entry)) at)) ⌝ }
+        (joinEntry (draftOf (now (text .entry)) (now (places .entry)) (now (slots .entry)) counts)
+        (rowAt (now (text .entry)) at)) r
+        (joinLine (draftOf (now (text .entry)) (now (places .entry)) (now (slots .entry)) counts)
+        (rowAt (now (text .entry)) at)) ⌝ }
 {
     let bad = shape(text, at, fields, 5, 4);
     if bad.number != 0 {

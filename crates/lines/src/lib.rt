@@ -1,4 +1,4 @@
-// A line below the first: its refusal, or what it declares. The notes are read here, and not written.
+// A line below the first: its refusal, or what it declares. The notes are only read here.
 ghost use mathlib.Core.Path.{_≡_};
 ghost use Rattle.grammar.specs.Rows.{rowAt};
 ghost use Rattle.grammar.specs.Lines.{line as lineOutcome};
@@ -23,7 +23,7 @@ use notes::Places;
 use notes::Slots;
 use shape::word;
 
-// 0 and what the line declares; or the number of its refusal and the leftmost field at fault, from 1, or 0 where none is.
+// 0 and what the line declares; or a refusal's number and its leftmost faulty field, from 1, or 0.
 pub struct Taken {
     pub number: u8,
     pub field: u8,
@@ -92,8 +92,10 @@ pub fn line(
     requires { ⌜ Fit (now text) (now places) (now slots) counts ⌝ }
     requires { ⌜ Told (now text) at fields ⌝ }
     ensures { λ r. ⌜ Took (now (text .entry)) (now (places .entry)) (now (slots .entry)) counts line
-        (entryOf (draftOf (now (text .entry)) (now (places .entry)) (now (slots .entry)) counts) (rowAt (now (text .entry)) at) (fields .from)) r
-        (lineOutcome (draftOf (now (text .entry)) (now (places .entry)) (now (slots .entry)) counts) line (rowAt (now (text .entry)) at)) ⌝ }
+        (entryOf (draftOf (now (text .entry)) (now (places .entry)) (now (slots .entry)) counts)
+        (rowAt (now (text .entry)) at) (fields .from)) r
+        (lineOutcome (draftOf (now (text .entry)) (now (places .entry)) (now (slots .entry)) counts)
+        line (rowAt (now (text .entry)) at)) ⌝ }
 {
     let keyword = keyword_of(word(text, at, fields, 0));
     match keyword {

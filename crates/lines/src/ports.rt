@@ -12,7 +12,7 @@ use notes::Places;
 use notes::Slots;
 use notes::UNITS;
 
-// The unit that field i names, and its port that the next field names, among count names from name base on.
+// The unit that field i names and its port that the next names, of count names from name base on.
 pub fn port(
     text: &[u8],
     places: &Places,
@@ -28,7 +28,9 @@ pub fn port(
     requires { ⌜ Told (now text) at fields ⌝ }
     requires { ⌜ (i < 4) × (i + 1 < fields .count) ⌝ }
     requires { ⌜ Ranked (now text) (now places) (now slots) base count ⌝ }
-    ensures { λ r. ⌜ Ported (now (text .entry)) (now (places .entry)) (now (slots .entry)) counts (rowAt (now (text .entry)) at) i base count r ⌝ }
+    ensures { λ r.
+        ⌜ Ported (now (text .entry)) (now (places .entry)) (now (slots .entry)) counts
+        (rowAt (now (text .entry)) at) i base count r ⌝ }
 {
     let units = counts.units;
     let owner = word(text, at, fields, i);

@@ -1,4 +1,4 @@
-// The fields of a line: each as a word, how many there are, and whether they are names; the line begins at place at.
+// A line's fields: each as a word, how many, whether they are names; the line begins at place at.
 ghost use mathlib.Core.Path.{_≡_};
 ghost use Prim.Native.Nat.{_<_};
 ghost use Rattle.grammar.specs.Rows.{rowAt, word as wordOf};

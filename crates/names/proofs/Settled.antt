@@ -1,4 +1,4 @@
--- The contracts of the public functions, as callers read them: where the names are ranked, one answer is permitted.
+-- Where the names are ranked, each public function's contract permits one answer.
 use mathlib.Core.Path.{ap₂, sym, refl, _∙_}
 use mathlib.Core.Bool.{Bool}
 use Prim.Native.Nat.{ℕ}

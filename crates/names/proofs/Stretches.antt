@@ -50,7 +50,9 @@ module _ (xs ys : List ℕ) where
 
   pub alike-is : (i : ℕ) → T (not (differs xs ys i)) → getD xs i 0 ≡ getD ys i 0
   unfolding differs
-  alike-is i h = eqb-true _ _ (is-true (eqb (getD xs i 0) (getD ys i 0)) (not-not (eqb (getD xs i 0) (getD ys i 0)) h))
+  alike-is i h =
+      eqb-true _ _ (is-true (eqb (getD xs i 0) (getD ys i 0))
+      (not-not (eqb (getD xs i 0) (getD ys i 0)) h))
 
   pub differ-at : (i : ℕ) → (getD xs i 0 ≡ getD ys i 0 → ⊥) → T (differs xs ys i)
   unfolding differs
@@ -113,11 +115,13 @@ module _ (t : List ℕ) (a : ℕ) (w : List ℕ) (k : Wordy w) (r : ℕ) (v : Li
   common-alike : Alike t a w r
   common-alike = upto r common-most common-low same-byte
     where
-      upto : (i : ℕ) → i ≤ length w → i ≤ length t - a → ((j : ℕ) → j < i → getD t (a + j) 0 ≡ getD w j 0)
+      upto : (i : ℕ) → i ≤ length w → i ≤ length t - a
+          → ((j : ℕ) → j < i → getD t (a + j) 0 ≡ getD w j 0)
           → Alike t a w i
       upto zero h g f = alike-none t a w
       upto (suc i) h g f =
-          alike-more t a w i k (upto i (omega arith) (omega arith) (λ j l. f j (omega arith))) (omega arith)
+          alike-more t a w i k (upto i (omega arith) (omega arith) (λ j l. f j (omega arith)))
+          (omega arith)
           (omega arith) (f i (omega arith))
 
   pub in-common : Common t a w r

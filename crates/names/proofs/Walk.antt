@@ -31,7 +31,8 @@ module _ (t : List ℕ) (a : ℕ) where
   empty-past h = rw (field-past h)
 
   pub field-here : a < length t → fieldAt t a
-      ≡ cond (eqb (getD t a 0) 10) [] (cond (eqb (getD t a 0) 9) [] (getD t a 0 ∷ fieldAt t (a + 1)))
+      ≡ cond (eqb (getD t a 0) 10) []
+      (cond (eqb (getD t a 0) 9) [] (getD t a 0 ∷ fieldAt t (a + 1)))
   unfolding fieldAt front
   field-here h = rw (drop-cons t a 0 h, add-one)
 
@@ -84,7 +85,8 @@ unfolding front
 word-first x xs e = go (eqb x lf) refl (eqb x tab) refl e
   where
     go : (a : Bool) → eqb x lf ≡ a → (b : Bool) → eqb x tab ≡ b
-        → cond a [] (cond b [] (x ∷ front xs)) ≡ x ∷ xs → (eqb x 10 ≡ false) × ((eqb x 9 ≡ false) × (front xs ≡ xs))
+        → cond a [] (cond b [] (x ∷ front xs)) ≡ x ∷ xs
+        → (eqb x 10 ≡ false) × ((eqb x 9 ≡ false) × (front xs ≡ xs))
     go true p b q z = absurd (omega (arith, ap length z))
     go false p true q z = absurd (omega (arith, ap length z))
     go false p false q z = (p, (q, ap (drop 1) z))
@@ -95,7 +97,8 @@ word-drop w zero e = e
 word-drop [] (suc j) e = refl
 word-drop (x ∷ xs) (suc j) e = word-drop xs j (word-first x xs e .1 .1)
 
-word-byte : (w : List ℕ) (j : ℕ) → Wordy w → j < length w → (eqb (getD w j 0) 10 ≡ false) × (eqb (getD w j 0) 9 ≡ false)
+word-byte : (w : List ℕ) (j : ℕ) → Wordy w → j < length w
+    → (eqb (getD w j 0) 10 ≡ false) × (eqb (getD w j 0) 9 ≡ false)
 word-byte w j k h =
     let z : front (getD w j 0 ∷ drop (suc j) w) ≡ getD w j 0 ∷ drop (suc j) w =
     subst (λ l. front l ≡ l) (drop-cons w j 0 h) (word-drop w j (k .whole)) in
@@ -119,7 +122,8 @@ module _ (t : List ℕ) (i : ℕ) (w : List ℕ) (j : ℕ) where
     along k g e =
         let (x, y) = word-byte w j k h in
         let p : Open t i =
-        record { inside = g; not-lf = ap (λ b. eqb b 10) e ∙ x; not-tab = ap (λ b. eqb b 9) e ∙ y } in
+        record { inside = g; not-lf = ap (λ b. eqb b 10) e ∙ x; not-tab = ap (λ b. eqb b 9) e ∙ y }
+        in
         rw (open-field t i p, drop-cons w j 0 h) (first-same _ _ _ _ e)
 
     module _ (g : same [] (fieldAt t i) ≡ false) where
@@ -147,7 +151,8 @@ alike-none t a w =
     let x : a + 0 ≡ a = omega arith in
     record { most = omega arith; left = rw x }
 
-pub alike-more : (t : List ℕ) (a : ℕ) (w : List ℕ) (i : ℕ) → Wordy w → Alike t a w i → i < length w → a + i < length t
+pub alike-more : (t : List ℕ) (a : ℕ) (w : List ℕ) (i : ℕ) → Wordy w → Alike t a w i → i < length w
+    → a + i < length t
     → getD t (a + i) 0 ≡ getD w i 0 → Alike t a w (suc i)
 alike-more t a w i v k h g e =
     let x : a + suc i ≡ a + i + 1 = omega arith in

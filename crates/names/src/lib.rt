@@ -31,7 +31,9 @@ fn wide(place: u16) -> usize
 fn compare_key(text: &[u8], places: &Places, slots: &Slots, k: usize, owner: u8, word: &[u8]) -> u8
     requires { ⌜ k < namesSize ⌝ }
     requires { ⌜ Wordy (now word) ⌝ }
-    ensures { λ r. ⌜ r ≡ compared (keyAt (now (text .entry)) (now (places .entry)) (now (slots .entry)) k) (owner ∷ now (word .entry)) ⌝ }
+    ensures { λ r.
+        ⌜ r ≡ compared (keyAt (now (text .entry)) (now (places .entry)) (now (slots .entry)) k)
+        (owner ∷ now (word .entry)) ⌝ }
 {
     let own = slots[OWNERS + k];
     if own < owner {
@@ -43,7 +45,7 @@ fn compare_key(text: &[u8], places: &Places, slots: &Slots, k: usize, owner: u8,
     words::compare(text, wide(places[k]), word)
 }
 
-// The rank of the word, as a name of that owner, among count names from name base on; where it has none, the one it would have.
+// The rank of the word, as a name of that owner, among count names from name base on, or its place.
 pub fn seek(
     text: &[u8],
     places: &Places,
@@ -55,7 +57,9 @@ pub fn seek(
 ) -> Spot
     requires { ⌜ Ranked (now text) (now places) (now slots) base count ⌝ }
     requires { ⌜ Wordy (now word) ⌝ }
-    ensures { λ r. ⌜ Spotted (now (text .entry)) (now (places .entry)) (now (slots .entry)) base count owner (now (word .entry)) (r .rank) (r .here) ⌝ }
+    ensures { λ r.
+        ⌜ Spotted (now (text .entry)) (now (places .entry)) (now (slots .entry)) base count owner
+        (now (word .entry)) (r .rank) (r .here) ⌝ }
 {
     let mut lo = 0;
     let mut hi = count;
@@ -93,7 +97,9 @@ pub fn find(
 ) -> usize
     requires { ⌜ Ranked (now text) (now places) (now slots) base count ⌝ }
     requires { ⌜ Wordy (now word) ⌝ }
-    ensures { λ r. ⌜ r ≡ leastFrom (named (now (text .entry)) (now (places .entry)) (now (slots .entry)) base owner (now (word .entry))) count 0 ⌝ }
+    ensures { λ r.
+        ⌜ r ≡ leastFrom (named (now (text .entry)) (now (places .entry))
+        (now (slots .entry)) base owner (now (word .entry))) count 0 ⌝ }
 {
     let spot = seek(text, places, slots, base, count, owner, word);
     if spot.here {

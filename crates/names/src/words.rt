@@ -35,7 +35,9 @@ fn length_of_shorter(p: &[u8], q: &[u8]) -> usize
 
 // How many first bytes two stretches have in common.
 fn common(p: &[u8], q: &[u8]) -> usize
-    ensures { λ r. ⌜ r ≡ leastFrom (differs (now (p .entry)) (now (q .entry))) (shorter (now (p .entry)) (now (q .entry))) 0 ⌝ }
+    ensures { λ r.
+        ⌜ r ≡ leastFrom (differs (now (p .entry)) (now (q .entry)))
+        (shorter (now (p .entry)) (now (q .entry))) 0 ⌝ }
 {
     let most = length_of_shorter(p, q);
     let mut i = 0;

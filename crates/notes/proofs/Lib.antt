@@ -1,3 +1,4 @@
+-- Laws of the notes: ranks, slots, names found and added; and what the contract of `note` settles.
 pub mod Ordered
 pub mod Ranks
 pub mod Slots

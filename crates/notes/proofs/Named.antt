@@ -15,7 +15,8 @@ use Rattle.notes.specs.Noted.{PutIn, NameNoted}
 use Rattle.notes.proofs.Ordered.{after-before}
 use Rattle.notes.proofs.Kept.{kept-all, kept-set, ranked-kept}
 
-module _ (t p s : List ℕ) (b n a u i : ℕ) (f : Ranked t p s b n) (o : Between t p s b n u (fieldAt t a) i i)
+module _ (t p s : List ℕ) (b n a u i : ℕ) (f : Ranked t p s b n)
+    (o : Between t p s b n u (fieldAt t a) i i)
     (room : b + n < namesSize) (long : length p ≡ placesSize) (wide : length s ≡ slotsSize) where
   abbrev q : List ℕ
   q = set p (b + n) a
@@ -28,7 +29,8 @@ module _ (t p s : List ℕ) (b n a u i : ℕ) (f : Ranked t p s b n) (o : Betwee
 
     owner-is : getD r (ownersBase + (b + n)) 0 ≡ u
     owner-is =
-        put .above (ownersBase + (b + n)) (omega arith) ∙ getD-set-same s (ownersBase + (b + n)) u 0 (omega arith)
+        put .above (ownersBase + (b + n)) (omega arith)
+        ∙ getD-set-same s (ownersBase + (b + n)) u 0 (omega arith)
 
     owner-kept : (k : ℕ) → k < n → getD r (ownersBase + (b + k)) 0 ≡ getD s (ownersBase + (b + k)) 0
     owner-kept k h =
@@ -56,7 +58,8 @@ module _ (t p s : List ℕ) (b n a u i : ℕ) (f : Ranked t p s b n) (o : Betwee
     unfolding keyAt nameAt
     old-key k h = rw (owner-kept k h, getD-set-other p (b + n) (b + k) a 0 (λ e. omega arith))
 
-    at-old : (j k : ℕ) → k < n → getD r (b + j) 0 ≡ getD s (b + k) 0 → rankAt t q r b j ≡ rankAt t p s b k
+    at-old : (j k : ℕ) → k < n → getD r (b + j) 0 ≡ getD s (b + k) 0
+        → rankAt t q r b j ≡ rankAt t p s b k
     at-old j k h e = ap (λ x. keyAt t q r (b + x)) e ∙ old-key (getD s (b + k) 0) (f .number k h)
 
     at-new : rankAt t q r b i ≡ u ∷ fieldAt t a
@@ -71,14 +74,20 @@ module _ (t p s : List ℕ) (b n a u i : ℕ) (f : Ranked t p s b n) (o : Betwee
 
     view : (j : ℕ) → j < n + 1 → Old j ⊎ (j ≡ i)
     view j h = elim (decLt j i) [
-      | yes g ↦ inl (record { from = j; low = omega (arith, o .high); slot = slot-below j g; side = inl (g, refl) })
+      | yes g ↦ inl (record {
+        from = j;
+        low = omega (arith, o .high);
+        slot = slot-below j g;
+        side = inl (g, refl);
+      })
       | no g ↦ elim (ℕ-discrete j i) [
         | yes e ↦ inr e
         | no e ↦ let z : j - 1 + 1 ≡ j = omega arith in
             inl (record {
               from = j - 1;
               low = omega arith;
-              slot = ap (λ k. getD r (b + k) 0) (sym z) ∙ slot-moved (j - 1) (omega arith) (omega arith);
+              slot = ap (λ k. getD r (b + k) 0) (sym z)
+                  ∙ slot-moved (j - 1) (omega arith) (omega arith);
               side = inr (omega arith, z);
             })
       ]
@@ -99,15 +108,18 @@ module _ (t p s : List ℕ) (b n a u i : ℕ) (f : Ranked t p s b n) (o : Betwee
         number j (inl v) = rw (v .slot) (omega (arith, f .number (v .from) (v .low)))
         number j (inr e) = rw (e, put .here) (omega arith)
 
-        order : (j k : ℕ) → j < k → Old j ⊎ (j ≡ i) → Old k ⊎ (k ≡ i) → compared (rankAt t q r b j) (rankAt t q r b k) ≡ 0
+        order : (j k : ℕ) → j < k → Old j ⊎ (j ≡ i) → Old k ⊎ (k ≡ i)
+            → compared (rankAt t q r b j) (rankAt t q r b k) ≡ 0
         order j k h (inl v) (inl w) =
             rw (at-old j (v .from) (v .low) (v .slot), at-old k (w .from) (w .low) (w .slot))
             (f .order (v .from) (w .from) (rises v w) (w .low))
           where
             rises : (v : Old j) (w : Old k) → v .from < w .from
             rises v w = elim (v .side) [
-              | inl (x, y) ↦ elim (w .side) [ inl (x2, y2) ↦ omega arith | inr (x2, y2) ↦ omega arith ]
-              | inr (x, y) ↦ elim (w .side) [ inl (x2, y2) ↦ omega arith | inr (x2, y2) ↦ omega arith ]
+              | inl (x, y) ↦ elim (w .side)
+                  [ inl (x2, y2) ↦ omega arith | inr (x2, y2) ↦ omega arith ]
+              | inr (x, y) ↦ elim (w .side)
+                  [ inl (x2, y2) ↦ omega arith | inr (x2, y2) ↦ omega arith ]
             ]
         order j k h (inl v) (inr e) =
             rw (e, at-old j (v .from) (v .low) (v .slot), at-new) (o .before (v .from) below)
@@ -122,7 +134,8 @@ module _ (t p s : List ℕ) (b n a u i : ℕ) (f : Ranked t p s b n) (o : Betwee
             above = elim (w .side) [ inl (x, y) ↦ omega arith | inr (x, y) ↦ omega arith ]
         order j k h (inr e) (inr z) = absurd (omega arith)
 
-        ranks : (k : ℕ) → (j : ℕ) × (j < n) × (getD s (b + j) 0 ≡ k) → (j : ℕ) × (j < n + 1) × (getD r (b + j) 0 ≡ k)
+        ranks : (k : ℕ) → (j : ℕ) × (j < n) × (getD s (b + j) 0 ≡ k)
+            → (j : ℕ) × (j < n + 1) × (getD r (b + j) 0 ≡ k)
         ranks k (j, g, e) = elim (decLt j i) [
           | yes h ↦ (j, omega arith, slot-below j h ∙ e)
           | no h ↦ (j + 1, omega arith, slot-moved j (omega arith) g ∙ e)
@@ -139,7 +152,8 @@ module _ (t p s : List ℕ) (b n a u i : ℕ) (f : Ranked t p s b n) (o : Betwee
       slots-kept = λ x e y z. record { at = λ j h g. kept j (y j h g) (z j h g) };
     }
       where
-        kept : (j : ℕ) → (b ≤ j → j ≤ b + n → ⊥) → (j ≡ ownersBase + (b + n) → ⊥) → getD r j 0 ≡ getD s j 0
+        kept : (j : ℕ) → (b ≤ j → j ≤ b + n → ⊥) → (j ≡ ownersBase + (b + n) → ⊥)
+            → getD r j 0 ≡ getD s j 0
         kept j y z = elim (decLt j (b + i)) [
           | yes h ↦ put .below j h ∙ getD-set-other s (ownersBase + (b + n)) j u 0 z
           | no h ↦ put .above j (elim (decLt (b + n) j) [
@@ -149,7 +163,8 @@ module _ (t p s : List ℕ) (b n a u i : ℕ) (f : Ranked t p s b n) (o : Betwee
         ]
 
 -- the names of another kind keep their ranks
-pub others-ranked : (t p s q r : List ℕ) (b n a u d m : ℕ) → NameNoted t p s q r b n a u → b + n < namesSize
+pub others-ranked : (t p s q r : List ℕ) (b n a u d m : ℕ) → NameNoted t p s q r b n a u
+    → b + n < namesSize
     → ((i : ℕ) → d ≤ i → i < d + m → b ≤ i → i ≤ b + n → ⊥) → Ranked t p s d m → Ranked t q r d m
 others-ranked t p s q r b n a u d m o room apart f =
     ranked-kept t p s q r d m

@@ -90,7 +90,8 @@ after-before (x ∷ xs) (y ∷ ys) e = elim (decLt y x) [
 
 -- ---- one after the other
 
-pub before-before : (xs ys zs : List ℕ) → compared xs ys ≡ 0 → compared ys zs ≡ 0 → compared xs zs ≡ 0
+pub before-before : (xs ys zs : List ℕ) → compared xs ys ≡ 0 → compared ys zs ≡ 0
+    → compared xs zs ≡ 0
 unfolding compared
 before-before [] [] zs e f = absurd (omega arith)
 before-before [] (y ∷ ys) [] e f = absurd (omega arith)
@@ -107,7 +108,8 @@ before-before (x ∷ xs) (y ∷ ys) (z ∷ zs) e f = elim (decLt x z) [
           let a : x ≡ y = omega arith in
           let b : y ≡ z = omega arith in
           first-same x z xs zs (a ∙ b)
-          ∙ before-before xs ys zs (sym (first-same x y xs ys a) ∙ e) (sym (first-same y z ys zs b) ∙ f)
+          ∙ before-before xs ys zs (sym (first-same x y xs ys a) ∙ e)
+          (sym (first-same y z ys zs b) ∙ f)
     ]
   ]
 ]

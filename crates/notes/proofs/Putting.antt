@@ -42,10 +42,13 @@ module _ (s r : List ℕ) (a e i : ℕ) (m : Moving s r a e i) (wide : e < lengt
           ap (λ n. getD (set r i (getD r (i - 1) 0)) n 0) k
           ∙ getD-set-same r i (getD r (i - 1) 0) 0 (omega (arith, m .long, m .high))
           ∙ m .below (i - 1) (omega arith) ∙ ap (λ n. getD s n 0) (sym z)
-      | no z ↦ getD-set-other r i (j + 1) (getD r (i - 1) 0) 0 (λ k. omega arith) ∙ m .moved j (omega arith) y
+      | no z ↦ getD-set-other r i (j + 1) (getD r (i - 1) 0) 0 (λ k. omega arith)
+          ∙ m .moved j (omega arith) y
     ];
-    below = λ j x. getD-set-other r i j (getD r (i - 1) 0) 0 (λ k. omega arith) ∙ m .below j (omega arith);
-    above = λ j x. getD-set-other r i j (getD r (i - 1) 0) 0 (λ k. omega (arith, m .high)) ∙ m .above j x;
+    below = λ j x. getD-set-other r i j (getD r (i - 1) 0) 0 (λ k. omega arith)
+        ∙ m .below j (omega arith);
+    above = λ j x. getD-set-other r i j (getD r (i - 1) 0) 0 (λ k. omega (arith, m .high))
+        ∙ m .above j x;
   }
 
   pub all-moved : i ≤ a → (v : ℕ) → PutIn s (set r a v) a e v
@@ -72,7 +75,12 @@ module _ (s : List ℕ) (a e v : ℕ) (low : a ≤ e) where
   unfolding shifted
   shifted-moved i h g =
       let z : i + 1 - 1 ≡ i = omega arith in
-      rw (le-ltb (i + 1) a (omega arith), ne-eqb (i + 1) a (λ k. omega arith), le-leb (i + 1) e (omega arith), z)
+      rw (
+        le-ltb (i + 1) a (omega arith),
+        ne-eqb (i + 1) a (λ k. omega arith),
+        le-leb (i + 1) e (omega arith),
+        z,
+      )
 
   shifted-above : (i : ℕ) → e < i → shifted s a e v i ≡ getD s i 0
   unfolding shifted
@@ -88,7 +96,8 @@ module _ (s : List ℕ) (a e v : ℕ) (low : a ≤ e) where
 
   pub put-in-is : (r : List ℕ) → PutIn s r a e v → r ≡ putIn s a e v
   put-in-is r p =
-      ext-getD 0 r (putIn s a e v) (p .long ∙ sym put-long) (λ i h. at i ∙ sym (put-at i (omega (arith, p .long))))
+      ext-getD 0 r (putIn s a e v) (p .long ∙ sym put-long)
+      (λ i h. at i ∙ sym (put-at i (omega (arith, p .long))))
     where
       at : (i : ℕ) → getD r i 0 ≡ shifted s a e v i
       at i = elim (decLt i a) [
@@ -99,7 +108,8 @@ module _ (s : List ℕ) (a e v : ℕ) (low : a ≤ e) where
             | yes g ↦ p .above i g ∙ sym (shifted-above i g)
             | no g ↦ let k : i ≡ i - 1 + 1 = omega arith in
                 ap (λ n. getD r n 0) k ∙ p .moved (i - 1) (omega arith) (omega arith)
-                ∙ sym (shifted-moved (i - 1) (omega arith) (omega arith)) ∙ ap (shifted s a e v) (sym k)
+                ∙ sym (shifted-moved (i - 1) (omega arith) (omega arith))
+                ∙ ap (shifted s a e v) (sym k)
           ]
         ]
       ]

@@ -18,7 +18,9 @@ use Rattle.notes.specs.Layout.{namesSize, ownersBase}
 use Rattle.notes.specs.Compared.{compared}
 use Rattle.notes.specs.Ranks.{nameAt, keyAt, rankAt, Ranked, Between, Spotted}
 use Rattle.notes.specs.Notes.{isNamed, named}
-use Rattle.notes.proofs.Ordered.{first-before, first-after, first-same, compared-low, compared-self, compared-equal, before-after, after-before, before-before}
+use Rattle.notes.proofs.Ordered.{first-before, first-after, first-same}
+use Rattle.notes.proofs.Ordered.{compared-low, compared-self, compared-equal}
+use Rattle.notes.proofs.Ordered.{before-after, after-before, before-before}
 
 -- ---- a name is the one sought where its key is
 
@@ -117,7 +119,8 @@ module _ (t p s : List ℕ) (b n : ℕ) (f : Ranked t p s b n) (u : ℕ) (w : Li
           e : beside mid ≡ 2
           e = let z : beside mid ≤ 2 = compared-low (at mid) (u ∷ w) in omega (arith, c, d)
 
-  pub spot-free : (lo hi : ℕ) → Between t p s b n u w lo hi → hi ≤ lo → Spotted t p s b n u w lo false
+  pub spot-free : (lo hi : ℕ) → Between t p s b n u w lo hi → hi ≤ lo
+      → Spotted t p s b n u w lo false
   spot-free lo hi o h = record {
     taken = λ z. absurd (mathlib.Core.Bool.true≢false (sym z));
     free = λ z. (rw (let e : hi ≡ lo = omega (arith, o .low) in e) at o);
@@ -161,11 +164,13 @@ module _ (t p s : List ℕ) (b n : ℕ) (f : Ranked t p s b n) (u : ℕ) (w : Li
             ]
           ]
 
-  pub taken-low : (i : ℕ) (h : Bool) → Spotted t p s b n u w i h → h ≡ true → leastFrom (named t p s b u w) n 0 < n
+  pub taken-low : (i : ℕ) (h : Bool) → Spotted t p s b n u w i h → h ≡ true
+      → leastFrom (named t p s b u w) n 0 < n
   taken-low i h o y = omega (arith, taken-least i h o y, f .number i (o .taken y .0))
 
   -- where it found none
-  pub free-least : (i : ℕ) (h : Bool) → Spotted t p s b n u w i h → h ≡ false → n ≡ leastFrom (named t p s b u w) n 0
+  pub free-least : (i : ℕ) (h : Bool) → Spotted t p s b n u w i h → h ≡ false
+      → n ≡ leastFrom (named t p s b u w) n 0
   free-least i h o y =
       not-found (named t p s b u w) n n (omega arith) (omega arith)
       (λ k h. other k (λ e. none k e (f .rank k h)))
@@ -183,9 +188,11 @@ module _ (t p s : List ℕ) (b n : ℕ) (f : Ranked t p s b n) (u : ℕ) (w : Li
   -- what is open at one rank alone is open at no other
   pub open-one : (i j : ℕ) → Between t p s b n u w i i → Between t p s b n u w j j → i ≡ j
   open-one i j o v = elim (decLt i j) [
-    | yes h ↦ absurd (omega (arith, v .before i h, o .after i (omega arith) (omega (arith, v .high))))
+    | yes h ↦ absurd (omega
+        (arith, v .before i h, o .after i (omega arith) (omega (arith, v .high))))
     | no h ↦ elim (decLt j i) [
-      | yes g ↦ absurd (omega (arith, o .before j g, v .after j (omega arith) (omega (arith, o .high))))
+      | yes g ↦ absurd (omega
+          (arith, o .before j g, v .after j (omega arith) (omega (arith, o .high))))
       | no g ↦ omega arith
     ]
   ]
@@ -211,7 +218,8 @@ module _ (t p s : List ℕ) (b n : ℕ) (f : Ranked t p s b n) (u : ℕ) (w : Li
         ]
       ]
 
-  pub spot-one : (i j : ℕ) (h g : Bool) → Spotted t p s b n u w i h → Spotted t p s b n u w j g → (i ≡ j) × (h ≡ g)
+  pub spot-one : (i j : ℕ) (h g : Bool) → Spotted t p s b n u w i h → Spotted t p s b n u w j g
+      → (i ≡ j) × (h ≡ g)
   spot-one i j true true x y = (taken-one i j (x .taken refl) (y .taken refl), refl)
   spot-one i j false false x y = (open-one i j (x .free refl) (y .free refl), refl)
   spot-one i j true false x y = absurd (shut-open i j (x .taken refl) (y .free refl))

@@ -19,7 +19,8 @@ module _ (t p s : List ℕ) (c : Counts) where
   pub feed-found : (x y : ℕ) → leastFrom (isFed s x y) (c .feeds) 0 ≡ feedOf (draftOf t p s c) x y
   unfolding feedOf draftOf isFed feedAt
   feed-found x y =
-      sym (place-least (λ f. eqb (f .input) x && eqb (f .output) y) (record { input = 0; output = 0 })
+      sym (place-least (λ f. eqb (f .input) x && eqb (f .output) y)
+      (record { input = 0; output = 0 })
       (listed (feedAt s) (c .feeds)) (isFed s x y) (c .feeds) (listed-length (feedAt s) (c .feeds))
       (λ i h. rw (listed-at (feedAt s) (c .feeds) i (record { input = 0; output = 0 }) h)))
 
@@ -27,7 +28,8 @@ module _ (t p s : List ℕ) (c : Counts) where
   unfolding loose draftOf isLoose inputAt
   loose-found =
       sym (place-least (λ i. eqb (i .source) 255) noInput
-      (listed (inputAt t p s) (c .inputs)) (isLoose s) (c .inputs) (listed-length (inputAt t p s) (c .inputs))
+      (listed (inputAt t p s) (c .inputs)) (isLoose s) (c .inputs)
+      (listed-length (inputAt t p s) (c .inputs))
       (λ i h. rw (listed-at (inputAt t p s) (c .inputs) i noInput h)))
 
   -- ---- the draft's counts are the counts
@@ -48,16 +50,19 @@ module _ (t p s : List ℕ) (c : Counts) where
   unfolding draftOf
   feeds-are = listed-length (feedAt s) (c .feeds)
 
-  pub source-is : (x : ℕ) → x < c .inputs → inputOf (draftOf t p s c) x .source ≡ getD s (sourcesBase + x) 0
+  pub source-is : (x : ℕ) → x < c .inputs
+      → inputOf (draftOf t p s c) x .source ≡ getD s (sourcesBase + x) 0
   unfolding draftOf inputAt
   source-is x h = rw (listed-at (inputAt t p s) (c .inputs) x noInput h)
 
-  pub line-is : (x : ℕ) → x < c .inputs → inputOf (draftOf t p s c) x .line ≡ getD p (linesBase + x) 0
+  pub line-is : (x : ℕ) → x < c .inputs
+      → inputOf (draftOf t p s c) x .line ≡ getD p (linesBase + x) 0
   unfolding draftOf inputAt
   line-is x h = rw (listed-at (inputAt t p s) (c .inputs) x noInput h)
 
 module _ (s : List ℕ) (x y k : ℕ) where
-  pub fed-here : getD s (feedsBase + 2 * k) 0 ≡ x → getD s (fedBase + 2 * k) 0 ≡ y → T (isFed s x y k)
+  pub fed-here : getD s (feedsBase + 2 * k) 0 ≡ x → getD s (fedBase + 2 * k) 0 ≡ y
+      → T (isFed s x y k)
   unfolding isFed
   fed-here a b = rw (eq-eqb _ _ a, eq-eqb _ _ b) tt
 
@@ -65,6 +70,7 @@ module _ (s : List ℕ) (x y k : ℕ) where
   unfolding isFed
   other-input n = rw (ne-eqb _ _ n) tt
 
-  pub other-output : getD s (feedsBase + 2 * k) 0 ≡ x → (getD s (fedBase + 2 * k) 0 ≡ y → ⊥) → T (not (isFed s x y k))
+  pub other-output : getD s (feedsBase + 2 * k) 0 ≡ x → (getD s (fedBase + 2 * k) 0 ≡ y → ⊥)
+      → T (not (isFed s x y k))
   unfolding isFed
   other-output a n = rw (eq-eqb _ _ a, ne-eqb _ _ n) tt

@@ -4,7 +4,7 @@ use mathlib.Core.Bool.{cond}
 use mathlib.Core.List.{List, [], _∷_}
 use lib.Dec.{ltb}
 
--- 0 where the one list is before the other, byte by byte, 1 where they are equal, 2 where it is after it
+-- 0 where the one list is before the other, byte by byte, 1 where they are equal, 2 where after it
 unfoldable pub compared : List ℕ → List ℕ → ℕ
 compared [] [] = 1
 compared [] (y ∷ ys) = 0

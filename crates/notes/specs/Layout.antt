@@ -1,6 +1,6 @@
--- Where the parts of the notes begin, and how long the two arrays are; no other file knows these numbers.
--- places: where each name begins, the units' from 0 on, then the outputs' and the inputs'; then the line of each input.
--- slots: the names' numbers by rank, parted as the names are, then each name's owner, kinds, sources, and feeds by pairs.
+-- Where the parts of the notes begin, and how long the arrays are: no other file has these numbers.
+-- places: where each unit's name begins, each output's, each input's; then each input's line.
+-- slots: the names' numbers by rank, parted alike; each name's owner; kinds, sources, feeds.
 use Prim.Native.Nat.{ℕ}
 
 -- ---- names

@@ -7,8 +7,8 @@ use lib.ListN.{length, getD, set}
 use lib.Dec.{eqb, ltb, leb}
 use Rattle.grammar.specs.Rows.{fieldAt}
 use Rattle.grammar.specs.Draft.{Draft, unjoined, addUnit, addOutput, addInput, addFeed, addJoin}
-use Rattle.notes.specs.Layout.{outputsBase, inputsBase, linesBase, ownersBase, kindsBase, sourcesBase}
-use Rattle.notes.specs.Layout.{feedsBase, fedBase, placesSize, slotsSize}
+use Rattle.notes.specs.Layout.{outputsBase, inputsBase, linesBase, ownersBase, kindsBase}
+use Rattle.notes.specs.Layout.{sourcesBase, feedsBase, fedBase, placesSize, slotsSize}
 use Rattle.notes.specs.Listed.{listed}
 use Rattle.notes.specs.Ranks.{Ranked, Between}
 use Rattle.notes.specs.Notes.{draftOf}
@@ -19,7 +19,7 @@ use Rattle.notes.specs.declared.Entry.{Entry}
 pub record Kept (a b : ℕ) (xs ys : List ℕ) : Type 0 where
   pub at : (i : ℕ) → a ≤ i → i < b → getD ys i 0 ≡ getD xs i 0
 
--- slots r are slots s with v put in at place a: what stood there and above, up to place e, is one place further
+-- slots r are slots s with v put in at place a: what stood there, up to place e, is one further
 pub record PutIn (s r : List ℕ) (a e v : ℕ) : Type 0 where
   pub long : length r ≡ length s
   pub here : getD r a 0 ≡ v
@@ -27,7 +27,7 @@ pub record PutIn (s r : List ℕ) (a e v : ℕ) : Type 0 where
   pub below : (i : ℕ) → i < a → getD r i 0 ≡ getD s i 0
   pub above : (i : ℕ) → e < i → getD r i 0 ≡ getD s i 0
 
--- in places q and slots r, which were p and s, the name behind n names from name b on begins at place a and has owner u
+-- q and r, which were p and s, hold one name more behind n names from name b on: place a, owner u
 pub record NameNoted (t p s q r : List ℕ) (b n a u : ℕ) : Type 0 where
   pub place : getD q (b + n) 0 ≡ a
   pub owner : getD r (ownersBase + (b + n)) 0 ≡ u
@@ -64,7 +64,8 @@ unfoldable pub inputPlaces : List ℕ → ℕ → Entry → ℕ → List ℕ
 inputPlaces p x e k = set (namedPlaces p inputsBase x e) (linesBase + x) k
 
 unfoldable pub inputSlots : List ℕ → ℕ → Entry → List ℕ
-inputSlots s x e = set (set (namedSlots s inputsBase x e) (kindsBase + x) (e .kind)) (sourcesBase + x) 255
+inputSlots s x e =
+    set (set (namedSlots s inputsBase x e) (kindsBase + x) (e .kind)) (sourcesBase + x) 255
 
 -- feed k
 unfoldable pub feedSlots : List ℕ → ℕ → Entry → List ℕ
@@ -74,16 +75,20 @@ unfoldable pub joinSlots : List ℕ → Entry → List ℕ
 joinSlots s e = set s (sourcesBase + e .input) (e .output)
 
 abbrev pub moreUnits : Counts → Counts
-moreUnits c = record { units = c .units + 1; outputs = c .outputs; inputs = c .inputs; feeds = c .feeds }
+moreUnits c =
+    record { units = c .units + 1; outputs = c .outputs; inputs = c .inputs; feeds = c .feeds }
 
 abbrev pub moreOutputs : Counts → Counts
-moreOutputs c = record { units = c .units; outputs = c .outputs + 1; inputs = c .inputs; feeds = c .feeds }
+moreOutputs c =
+    record { units = c .units; outputs = c .outputs + 1; inputs = c .inputs; feeds = c .feeds }
 
 abbrev pub moreInputs : Counts → Counts
-moreInputs c = record { units = c .units; outputs = c .outputs; inputs = c .inputs + 1; feeds = c .feeds }
+moreInputs c =
+    record { units = c .units; outputs = c .outputs; inputs = c .inputs + 1; feeds = c .feeds }
 
 abbrev pub moreFeeds : Counts → Counts
-moreFeeds c = record { units = c .units; outputs = c .outputs; inputs = c .inputs; feeds = c .feeds + 1 }
+moreFeeds c =
+    record { units = c .units; outputs = c .outputs; inputs = c .inputs; feeds = c .feeds + 1 }
 
 -- ---- by what is declared: 1 a unit, 2 an output, 3 an input, 4 a feed, 5 a join
 
@@ -132,12 +137,20 @@ pub data Declares (t p s : List ℕ) (c : Counts) (k : ℕ) : Entry → Draft �
       → Declares t p s c k e (addUnit (draftOf t p s c) (fieldAt t (e .begin)))
   output : (e : Entry) → e .what ≡ 2 → c .outputs < 96
       → Between t p s outputsBase (c .outputs) (e .owner) (fieldAt t (e .begin)) (e .rank) (e .rank)
-      → Declares t p s c k e (addOutput (draftOf t p s c) (record { owner = e .owner; name = fieldAt t (e .begin) }))
+      → Declares t p s c k e (addOutput (draftOf t p s c)
+      (record { owner = e .owner; name = fieldAt t (e .begin) }))
   input : (e : Entry) → e .what ≡ 3 → c .inputs < 96
       → Between t p s inputsBase (c .inputs) (e .owner) (fieldAt t (e .begin)) (e .rank) (e .rank)
       → Declares t p s c k e (addInput (draftOf t p s c)
-      (record { owner = e .owner; name = fieldAt t (e .begin); kind = e .kind; source = unjoined; line = k }))
+      (record {
+        owner = e .owner;
+        name = fieldAt t (e .begin);
+        kind = e .kind;
+        source = unjoined;
+        line = k;
+      }))
   feed : (e : Entry) → e .what ≡ 4 → e .rank ≡ 0 → c .feeds < 128
-      → Declares t p s c k e (addFeed (draftOf t p s c) (record { input = e .input; output = e .output }))
+      → Declares t p s c k e (addFeed (draftOf t p s c)
+      (record { input = e .input; output = e .output }))
   join : (e : Entry) → e .what ≡ 5 → e .rank ≡ 0 → e .input < c .inputs
       → Declares t p s c k e (addJoin (draftOf t p s c) (e .input) (e .output))

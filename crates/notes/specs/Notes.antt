@@ -7,8 +7,9 @@ use lib.ListN.{length, getD}
 use lib.Dec.{eqb}
 use Rattle.grammar.specs.Words.{same}
 use Rattle.grammar.specs.Draft.{Draft, Output, Input, Feed}
-use Rattle.notes.specs.Layout.{outputsBase, inputsBase, linesBase, ownersBase, outputOwners, inputOwners}
-use Rattle.notes.specs.Layout.{kindsBase, sourcesBase, feedsBase, fedBase, placesSize, slotsSize}
+use Rattle.notes.specs.Layout.{outputsBase, inputsBase, linesBase, ownersBase}
+use Rattle.notes.specs.Layout.{outputOwners, inputOwners, kindsBase, sourcesBase}
+use Rattle.notes.specs.Layout.{feedsBase, fedBase, placesSize, slotsSize}
 use Rattle.notes.specs.Listed.{listed}
 use Rattle.notes.specs.Ranks.{nameAt, Ranked}
 use Rattle.notes.specs.declared.Counts.{Counts}
@@ -16,7 +17,8 @@ use Rattle.notes.specs.declared.Counts.{Counts}
 -- ---- what stands in the slots of one number
 
 unfoldable pub outputAt : List ℕ → List ℕ → List ℕ → ℕ → Output
-outputAt t p s y = record { owner = getD s (outputOwners + y) 0; name = nameAt t p (outputsBase + y) }
+outputAt t p s y =
+    record { owner = getD s (outputOwners + y) 0; name = nameAt t p (outputsBase + y) }
 
 unfoldable pub inputAt : List ℕ → List ℕ → List ℕ → ℕ → Input
 inputAt t p s x =

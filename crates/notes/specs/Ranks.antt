@@ -27,7 +27,7 @@ pub record Ranked (t p s : List ℕ) (b n : ℕ) : Type 0 where
   pub order : (i j : ℕ) → i < j → j < n → compared (rankAt t p s b i) (rankAt t p s b j) ≡ 0
   pub rank : (k : ℕ) → k < n → (i : ℕ) × (i < n) × (getD s (b + i) 0 ≡ k)
 
--- from rank lo up to rank hi it is open where w, of owner u, stands: the names below are before it, the others after it
+-- w, of owner u, may stand from rank lo to rank hi: the names below are before it, the others after
 pub record Between (t p s : List ℕ) (b n u : ℕ) (w : List ℕ) (lo hi : ℕ) : Type 0 where
   pub low : lo ≤ hi
   pub high : hi ≤ n

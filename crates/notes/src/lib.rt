@@ -1,8 +1,11 @@
-// The notes: what the lines of a text have declared, in two arrays and four counts, and one declaration more noted.
+// The notes: what a text has declared, in two arrays and four counts; and one declaration more.
 ghost use mathlib.Core.Path.{_≡_};
 ghost use Prim.Native.Nat.{_+_, _≤_, _<_};
 ghost use lib.ListN.{length};
-ghost use Rattle.notes.specs.Noted.{putIn, namedPlaces, namedSlots, Became, Room, moreUnits, moreOutputs, moreInputs, moreFeeds, inputPlaces, inputSlots, feedSlots, joinSlots, countsWith, placesWith, slotsWith};
+ghost use Rattle.notes.specs.Noted.{putIn, namedPlaces, namedSlots, Became, Room};
+ghost use Rattle.notes.specs.Noted.{moreUnits, moreOutputs, moreInputs, moreFeeds};
+ghost use Rattle.notes.specs.Noted.{inputPlaces, inputSlots, feedSlots, joinSlots};
+ghost use Rattle.notes.specs.Noted.{countsWith, placesWith, slotsWith};
 ghost use Rattle.notes.specs.Layout.{outputsBase, namesSize, placesSize, slotsSize};
 
 // Where the notes keep what: in places where each name begins, and then the line of each input.
@@ -16,7 +19,7 @@ pub const LINES: usize = 224;
 
 pub const PLACES: usize = 320;
 
-// In slots the numbers of the names by rank, and then the owner of each name, kinds, sources, and feeds by pairs.
+// In slots the names' numbers by rank; then each name's owner, kinds, sources, and feeds by pairs.
 pub const OWNERS: usize = 224;
 
 pub const OUTPUT_OWNERS: usize = 256;
@@ -48,7 +51,7 @@ pub struct Counts {
     pub feeds: usize,
 }
 
-// What a line declares: 1 a unit, 2 an output, 3 an input, 4 a feed, 5 a join; the parts of it, and where its name begins.
+// What a line declares, 1 a unit, 2 an output, 3 an input, 4 a feed, 5 a join, with its parts.
 pub struct Entry {
     pub what: u8,
     pub owner: u8,
@@ -106,7 +109,8 @@ fn note_output(places: &mut Places, slots: &mut Slots, counts: Counts, entry: En
     requires { ⌜ (counts .outputs < 96) × (entry .rank ≤ counts .outputs) ⌝ }
     ensures { λ r. ⌜ Became (now (places .exit)) (now (slots .exit)) r
         (namedPlaces (now (places .entry)) outputsBase (counts .outputs) entry)
-        (namedSlots (now (slots .entry)) outputsBase (counts .outputs) entry) (moreOutputs counts) ⌝ }
+        (namedSlots (now (slots .entry)) outputsBase (counts .outputs) entry)
+        (moreOutputs counts) ⌝ }
 {
     let outputs = counts.outputs;
     note_name(places, slots, OUTPUTS, outputs, entry);

@@ -1,2 +1,3 @@
+-- Laws of the scans over a whole text; and what their contracts settle.
 pub mod Scanning
 pub mod Settled

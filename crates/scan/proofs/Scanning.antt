@@ -17,7 +17,8 @@ use Rattle.grammar.specs.Places.{place-least}
 pub bad-least : (t : List ℕ) → firstBad t ≡ leastFrom (λ i. not (allowed (getD t i 0))) (length t) 0
 unfolding firstBad
 bad-least t =
-    place-least (λ b. not (allowed b)) 0 t (λ i. not (allowed (getD t i 0))) (length t) refl (λ i h. refl)
+    place-least (λ b. not (allowed b)) 0 t (λ i. not (allowed (getD t i 0))) (length t) refl
+    (λ i h. refl)
 
 times-append : (c x : ℕ) (xs : List ℕ) → times c (xs ++ (x ∷ [])) ≡ times c xs + cond (eqb x c) 1 0
 unfolding times
@@ -29,7 +30,8 @@ times-append c x [] = go (eqb x c)
 times-append c x (y ∷ ys) = go (eqb y c) (times-append c x ys)
   where
     go : (b : Bool) → times c (ys ++ (x ∷ [])) ≡ times c ys + cond (eqb x c) 1 0
-        → cond b (suc (times c (ys ++ (x ∷ [])))) (times c (ys ++ (x ∷ []))) ≡ cond b (suc (times c ys)) (times c ys) + cond (eqb x c) 1 0
+        → cond b (suc (times c (ys ++ (x ∷ [])))) (times c (ys ++ (x ∷ [])))
+        ≡ cond b (suc (times c ys)) (times c ys) + cond (eqb x c) 1 0
     go true e = omega arith
     go false e = e
 
@@ -37,7 +39,8 @@ module _ (t : List ℕ) (i n : ℕ) (h : i < length t) (e : n ≡ times lf (take
   one-more : times lf (take (i + 1) t) ≡ n + cond (eqb (getD t i 0) lf) 1 0
   one-more =
       rw (add-one i, take-suc t i 0 h)
-      (times-append lf (getD t i 0) (take i t) ∙ ap (λ k. k + cond (eqb (getD t i 0) lf) 1 0) (sym e))
+      (times-append lf (getD t i 0) (take i t)
+      ∙ ap (λ k. k + cond (eqb (getD t i 0) lf) 1 0) (sym e))
 
   pub counts : getD t i 0 ≡ 10 → n + 1 ≡ times lf (take (i + 1) t)
   counts q = sym (one-more ∙ rw (eq-eqb _ _ q))

@@ -23,7 +23,8 @@ Answered g before after r =
 known : (g h : Reading) (before after : List ℕ) → g ≡ h → after ≡ fronted (h .bytes) before
     → Answered g before after (record { number = h .number; place = h .place })
 known g h before after e q = (
-  sym (ap (λ (x : Reading). (let r : Answer = record { number = x .number; place = x .place } in r)) e),
+  sym (ap (λ (x : Reading). (let r : Answer = record { number = x .number; place = x .place } in r))
+      e),
   q ∙ ap (λ (x : Reading). fronted (x .bytes) before) (sym e),
 )
 
@@ -50,13 +51,18 @@ module _ (t p s : List ℕ) (r : Noted) (k : Noticed t p s r) (out : List ℕ) w
       unfolding roomed stopped
       read-34 h = known _ (stopped 34 0) out out
           (k .left (length out)
-          ∙ rw (z, lt-ltb (length out) (length (packed (draftOf t p s (r .counts)))) (omega (arith, long))))
+          ∙ rw (
+            z,
+            lt-ltb (length out) (length (packed (draftOf t p s (r .counts))))
+                (omega (arith, long)),
+          ))
           refl
 
       pub read-room : size ≤ length out → length (bytesOf s (r .counts)) ≤ length out
       read-room h = omega (arith, bytes-long s (r .counts) slots-fit)
 
-      pub read-done : size ≤ length out → (after : List ℕ) → after ≡ fronted (bytesOf s (r .counts)) out
+      pub read-done : size ≤ length out → (after : List ℕ)
+          → after ≡ fronted (bytesOf s (r .counts)) out
           → Answered (reading (length out) t) out after (record { number = 0; place = size })
       unfolding roomed
       read-done h after q =

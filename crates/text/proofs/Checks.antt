@@ -20,7 +20,8 @@ unfolding times
 times-le c [] = omega arith
 times-le c (x ∷ xs) = go (eqb x c) (times-le c xs)
   where
-    go : (b : Bool) → times c xs ≤ length xs → cond b (suc (times c xs)) (times c xs) ≤ suc (length xs)
+    go : (b : Bool) → times c xs ≤ length xs
+        → cond b (suc (times c xs)) (times c xs) ≤ suc (length xs)
     go true h = omega arith
     go false h = omega arith
 

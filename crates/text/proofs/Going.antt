@@ -1,4 +1,4 @@
--- The walk along the lines: what is noted at each line, and that the lines left give what all of them give.
+-- The walk along the lines: what each notes, and that the lines left give what all of them give.
 use Prim.Native.Nat.{ℕ, suc, _+_, _-_, _≤_, _<_}
 use mathlib.Core.Path.{_≡_, refl, sym, ap, subst, _∙_}
 use mathlib.Core.Bool.{Bool, true, false, cond}
@@ -52,11 +52,16 @@ rows-some [] h e = absurd (omega arith)
 rows-some (x ∷ []) h e = rw e (omega arith)
 rows-some (x ∷ y ∷ ys) h e = go (eqb x lf) (eqb x tab) (rows-some (y ∷ ys) (omega arith) (last e))
   where
-    last : getD (x ∷ y ∷ ys) (suc (suc (length ys)) - 1) 0 ≡ 10 → getD (y ∷ ys) (suc (length ys) - 1) 0 ≡ 10
-    last q = ap (λ k. getD (y ∷ ys) k 0) (let z : suc (length ys) - 1 ≡ length ys = omega arith in z)
-        ∙ sym (ap (λ k. getD (x ∷ y ∷ ys) k 0) (let z : suc (suc (length ys)) - 1 ≡ suc (length ys) = omega arith in z)) ∙ q
+    last : getD (x ∷ y ∷ ys) (suc (suc (length ys)) - 1) 0 ≡ 10
+        → getD (y ∷ ys) (suc (length ys) - 1) 0 ≡ 10
+    last q =
+        ap (λ k. getD (y ∷ ys) k 0) (let z : suc (length ys) - 1 ≡ length ys = omega arith in z)
+        ∙ sym (ap (λ k. getD (x ∷ y ∷ ys) k 0)
+        (let z : suc (suc (length ys)) - 1 ≡ suc (length ys) = omega arith in z)) ∙ q
 
-    go : (a b : Bool) → Some (rows (y ∷ ys)) → Some (cond a (([] ∷ []) ∷ rows (y ∷ ys)) (cond b (parted (rows (y ∷ ys))) (grown x (rows (y ∷ ys)))))
+    go : (a b : Bool) → Some (rows (y ∷ ys))
+        → Some (cond a (([] ∷ []) ∷ rows (y ∷ ys))
+        (cond b (parted (rows (y ∷ ys))) (grown x (rows (y ∷ ys)))))
     go true b s = omega arith
     go false true s = some-parted (rows (y ∷ ys)) s
     go false false s = some-grown x (rows (y ∷ ys)) s
@@ -66,7 +71,8 @@ unfolding rowAt
 row-some t a e h =
     rows-some (drop a t) (rw (length-drop a t) (omega arith))
     (getD-drop a t (length (drop a t) - 1) 0
-    ∙ ap (λ k. getD t k 0) (let z : a + (length (drop a t) - 1) ≡ length t - 1 = omega (arith, length-drop a t) in z) ∙ e .last)
+    ∙ ap (λ k. getD t k 0) (let z : a + (length (drop a t) - 1)
+    ≡ length t - 1 = omega (arith, length-drop a t) in z) ∙ e .last)
 
 -- ---- the walk
 
@@ -75,7 +81,8 @@ pub record Going (t : List ℕ) (a : ℕ) (p s : List ℕ) (c : Counts) (at k : 
   pub fit : Fit t p s c
   pub within : at ≤ length t
   pub low : k ≤ at + 2
-  pub left : (room : ℕ) → linesFrom room blank 2 (rows (drop a t)) ≡ linesFrom room (draftOf t p s c) k (rows (drop at t))
+  pub left : (room : ℕ) → linesFrom room blank 2 (rows (drop a t))
+      ≡ linesFrom room (draftOf t p s c) k (rows (drop at t))
 
 abbrev pub noneYet : Counts
 noneYet = record { units = 0; outputs = 0; inputs = 0; feeds = 0 }
@@ -94,18 +101,21 @@ none-fits t p s h g = record {
   inputs-ranked = none-ranked t p s inputsBase (omega arith);
 }
 
-pub going-starts : (t : List ℕ) (a : ℕ) (p s : List ℕ) → length p ≡ placesSize → length s ≡ slotsSize → a ≤ length t
+pub going-starts : (t : List ℕ) (a : ℕ) (p s : List ℕ) → length p ≡ placesSize
+    → length s ≡ slotsSize → a ≤ length t
     → Going t a p s noneYet a 2
 unfolding draftOf blank listed
 going-starts t a p s h g w =
     record { fit = none-fits t p s h g; within = w; low = omega arith; left = λ room. refl }
 
-module _ (t : List ℕ) (a : ℕ) (p s : List ℕ) (c : Counts) (at k : ℕ) (g : Going t a p s c at k) where
+module _ (t : List ℕ) (a : ℕ) (p s : List ℕ) (c : Counts) (at k : ℕ)
+    (g : Going t a p s c at k) where
   module _ (l : Fields) (told : Told t at l) (entry : ℕ → Entry) (o : Taken)
       (took : Took t p s c k entry o (line (draftOf t p s c) k (rowAt t at))) where
     left-then : (room : ℕ) → linesFrom room blank 2 (rows (drop a t))
         ≡ cond (eqb (o .number) 0)
-        (linesFrom room (line (draftOf t p s c) k (rowAt t at) .draft) (suc k) (rows (drop (l .next) t))) (stopped (o .number) k)
+        (linesFrom room (line (draftOf t p s c) k (rowAt t at) .draft) (suc k)
+        (rows (drop (l .next) t))) (stopped (o .number) k)
     unfolding linesFrom
     left-then room = g .left room ∙ rw (told .rest) (rw (took .number))
 
@@ -114,7 +124,8 @@ module _ (t : List ℕ) (a : ℕ) (p s : List ℕ) (c : Counts) (at k : ℕ) (g 
     going-room z = declares-room t p s c k (g .fit) (took .declares z)
 
     pub going-on : (q r : List ℕ) (m : Counts) (n : ℕ) → o .number ≡ 0
-        → Became q r m (placesWith p c (o .entry) k) (slotsWith s c (o .entry)) (countsWith c (o .entry))
+        → Became q r m (placesWith p c (o .entry) k) (slotsWith s c (o .entry))
+        (countsWith c (o .entry))
         → n ≡ l .next → Going t a q r m n (k + 1)
     going-on q r m n z b e = record {
       fit = stands .fit;
@@ -125,7 +136,8 @@ module _ (t : List ℕ) (a : ℕ) (p s : List ℕ) (c : Counts) (at k : ℕ) (g 
       where
         stands : Stands t q r m (line (draftOf t p s c) k (rowAt t at) .draft)
         stands =
-            rw (b .places, b .slots, b .counts) (declares-stands t p s c k (g .fit) (took .declares z))
+            rw (b .places, b .slots, b .counts)
+            (declares-stands t p s c k (g .fit) (took .declares z))
 
     pub going-stop : (o .number ≡ 0 → ⊥)
         → Walked t p s (record { number = o .number; place = k; counts = c })
@@ -136,7 +148,8 @@ module _ (t : List ℕ) (a : ℕ) (p s : List ℕ) (c : Counts) (at k : ℕ) (g 
     }
 
   pub going-end : length t ≤ at
-      → Walked t p s (record { number = 0; place = k; counts = c }) (λ room. linesFrom room blank 2 (rows (drop a t)))
+      → Walked t p s (record { number = 0; place = k; counts = c })
+      (λ room. linesFrom room blank 2 (rows (drop a t)))
   unfolding linesFrom rows
   going-end h = record {
     fit = g .fit;
@@ -144,6 +157,7 @@ module _ (t : List ℕ) (a : ℕ) (p s : List ℕ) (c : Counts) (at k : ℕ) (g 
   }
 
 -- the fields that are read at a place of an ended text are told right
-pub told-fields : (t : List ℕ) (at : ℕ) (l : Fields) → Ended t → at < length t → l ≡ fieldsAt t at → Told t at l
+pub told-fields : (t : List ℕ) (at : ℕ) (l : Fields) → Ended t → at < length t → l ≡ fieldsAt t at
+    → Told t at l
 told-fields t at l e h q =
     subst (Told t at) (sym q) (fields-told t at (omega (arith, e .short)) (row-some t at e h))

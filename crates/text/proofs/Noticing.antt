@@ -61,23 +61,27 @@ module _ (t p s : List ℕ) (w : Answer) (h : Whole t w) where
     left = λ room. h .left room ∙ rw (ne-eqb (w .number) 0 n);
   }
 
-  module _ (z : w .number ≡ 0) (l : Fields) (told : Told t 0 l) (v : ℕ) (q : v ≡ version (rowAt t 0)) where
+  module _ (z : w .number ≡ 0) (l : Fields) (told : Told t 0 l) (v : ℕ)
+      (q : v ≡ version (rowAt t 0)) where
     first : (room : ℕ) → reading room t
         ≡ cond (eqb v 0) (stopped 23 1) (linesFrom room blank 2 (rows (drop (l .next) t)))
     unfolding lineByLine
     first room = h .left room ∙ rw (z) (rw (told .rest, ← q))
 
-    pub notice-23 : v ≡ 0 → (c : Counts) → Noticed t p s (record { number = 23; place = 1; counts = c })
+    pub notice-23 : v ≡ 0 → (c : Counts)
+        → Noticed t p s (record { number = 23; place = 1; counts = c })
     notice-23 e c = record { fit = λ k. absurd (omega arith); left = λ room. first room ∙ rw e }
 
     module _ (n : v ≡ 0 → ⊥) (r : Noted) (a : ℕ) (b : a ≡ l .next)
         (k : Walked t p s r (λ room. linesFrom room blank 2 (rows (drop a t)))) where
       lined : (room : ℕ) → reading room t ≡
-          cond (eqb (r .number) 0) (ending room (draftOf t p s (r .counts))) (stopped (r .number) (r .place))
+          cond (eqb (r .number) 0) (ending room (draftOf t p s (r .counts)))
+          (stopped (r .number) (r .place))
       lined room = first room ∙ rw (ne-eqb v 0 n, ← b) (k .left room)
 
       pub notice-line : (r .number ≡ 0 → ⊥) → Noticed t p s r
-      notice-line i = record { fit = λ e. k .fit; left = λ room. lined room ∙ rw (ne-eqb (r .number) 0 i) }
+      notice-line i =
+          record { fit = λ e. k .fit; left = λ room. lined room ∙ rw (ne-eqb (r .number) 0 i) }
 
       pub notice-close : (g : Noted) → r .number ≡ 0 → Closed t p s (r .counts) g → Noticed t p s g
       notice-close g i c = record {

@@ -7,7 +7,8 @@ use lib.ListN.{length, getD, take, drop, length-append, length-drop}
 use lib.Seq.{length-take-le}
 use Rattle.grammar.specs.Draft.{Output, Input, Feed}
 use Rattle.grammar.specs.Reading.{packed, pairs}
-use Rattle.notes.specs.Layout.{outputOwners, inputOwners, kindsBase, sourcesBase, feedsBase, fedBase, slotsSize}
+use Rattle.notes.specs.Layout.{outputOwners, inputOwners, kindsBase}
+use Rattle.notes.specs.Layout.{sourcesBase, feedsBase, fedBase, slotsSize}
 use Rattle.notes.specs.declared.Counts.{Counts}
 use Rattle.notes.specs.Listed.{listed, listed-map, listed-part, listed-length}
 use Rattle.notes.specs.Ranks.{nameAt}
@@ -26,34 +27,40 @@ fit-slotted t p s c f = record {
   feeds-most = f .feeds-most;
 }
 
-slots-are : (s : List ℕ) (b n : ℕ) → b + n ≤ length s → listed (λ i. getD s (b + i) 0) n ≡ slotsFrom s b n
+slots-are : (s : List ℕ) (b n : ℕ) → b + n ≤ length s
+    → listed (λ i. getD s (b + i) 0) n ≡ slotsFrom s b n
 slots-are s b n h =
     listed-part s b n h ∙ ap (λ k. take k (drop b s)) (let z : n ≡ (b + n) - b = omega arith in z)
 
 pub slots-long : (s : List ℕ) (b n : ℕ) → b + n ≤ length s → length (slotsFrom s b n) ≡ n
 slots-long s b n h =
-    length-take-le ((b + n) - b) (drop b s) (rw (length-drop b s) (omega arith)) ∙ (let z : (b + n) - b ≡ n = omega arith in z)
+    length-take-le ((b + n) - b) (drop b s) (rw (length-drop b s) (omega arith))
+    ∙ (let z : (b + n) - b ≡ n = omega arith in z)
 
-pairs-append : (xs : List Feed) (f : Feed) → pairs (xs ++ (f ∷ [])) ≡ pairs xs ++ (f .input ∷ f .output ∷ [])
+pairs-append : (xs : List Feed) (f : Feed)
+    → pairs (xs ++ (f ∷ [])) ≡ pairs xs ++ (f .input ∷ f .output ∷ [])
 unfolding pairs
 pairs-append [] f = refl
 pairs-append (x ∷ xs) f = rw (pairs-append xs f)
 
 -- two slots more
-listed-two : (g : ℕ → ℕ) (n : ℕ) → listed g (2 * suc n) ≡ listed g (2 * n) ++ (g (2 * n) ∷ g (suc (2 * n)) ∷ [])
+listed-two : (g : ℕ → ℕ) (n : ℕ)
+    → listed g (2 * suc n) ≡ listed g (2 * n) ++ (g (2 * n) ∷ g (suc (2 * n)) ∷ [])
 unfolding listed
 listed-two g n =
     ap (listed g) (let z : 2 * suc n ≡ suc (suc (2 * n)) = omega arith in z)
     ∙ append-assoc (listed g (2 * n)) (g (2 * n) ∷ []) (g (suc (2 * n)) ∷ [])
 
-pairs-are : (s : List ℕ) (n : ℕ) → pairs (listed (feedAt s) n) ≡ listed (λ i. getD s (feedsBase + i) 0) (2 * n)
+pairs-are : (s : List ℕ) (n : ℕ)
+    → pairs (listed (feedAt s) n) ≡ listed (λ i. getD s (feedsBase + i) 0) (2 * n)
 unfolding listed pairs feedAt
 pairs-are s zero = refl
 pairs-are s (suc n) =
     pairs-append (listed (feedAt s) n) (feedAt s n)
     ∙ rw (pairs-are s n)
     (sym (listed-two (λ i. getD s (feedsBase + i) 0) n
-    ∙ ap (λ k. listed (λ i. getD s (feedsBase + i) 0) (2 * n) ++ (getD s (feedsBase + 2 * n) 0 ∷ getD s k 0 ∷ []))
+    ∙ ap (λ k. listed (λ i. getD s (feedsBase + i) 0) (2 * n)
+    ++ (getD s (feedsBase + 2 * n) 0 ∷ getD s k 0 ∷ []))
     (let z : feedsBase + suc (2 * n) ≡ fedBase + 2 * n = omega arith in z)))
 
 module _ (t p s : List ℕ) (c : Counts) (f : Fit t p s c) where
@@ -147,10 +154,13 @@ module _ (s : List ℕ) (c : Counts) (out : List ℕ) (room : length (bytesOf s 
   r₄ = shorter p₄ (slotsFrom s outputOwners (c .outputs)) r₅
 
   pub puts-packed : {o₁ o₂ o₃ o₄ o₅ o₆ o₇ o₈ o₉ : List ℕ} {k₁ k₂ k₃ k₄ k₅ k₆ k₇ k₈ k₉ : ℕ}
-      → Put out 0 (c .units ∷ []) o₁ k₁ → Put o₁ k₁ (c .outputs ∷ []) o₂ k₂ → Put o₂ k₂ (c .inputs ∷ []) o₃ k₃
+      → Put out 0 (c .units ∷ []) o₁ k₁ → Put o₁ k₁ (c .outputs ∷ []) o₂ k₂
+      → Put o₂ k₂ (c .inputs ∷ []) o₃ k₃
       → Put o₃ k₃ (c .feeds ∷ []) o₄ k₄ → Put o₄ k₄ (slotsFrom s outputOwners (c .outputs)) o₅ k₅
-      → Put o₅ k₅ (slotsFrom s inputOwners (c .inputs)) o₆ k₆ → Put o₆ k₆ (slotsFrom s kindsBase (c .inputs)) o₇ k₇
-      → Put o₇ k₇ (slotsFrom s sourcesBase (c .inputs)) o₈ k₈ → Put o₈ k₈ (slotsFrom s feedsBase (2 * c .feeds)) o₉ k₉
+      → Put o₅ k₅ (slotsFrom s inputOwners (c .inputs)) o₆ k₆
+      → Put o₆ k₆ (slotsFrom s kindsBase (c .inputs)) o₇ k₇
+      → Put o₇ k₇ (slotsFrom s sourcesBase (c .inputs)) o₈ k₈
+      → Put o₈ k₈ (slotsFrom s feedsBase (2 * c .feeds)) o₉ k₉
       → o₉ ≡ fronted (bytesOf s c) out
   unfolding bytesOf
   puts-packed a b d e f g h i j =

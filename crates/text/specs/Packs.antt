@@ -3,7 +3,8 @@ use Prim.Native.Nat.{ℕ, _+_, _-_, _*_, _≤_}
 use mathlib.Core.Path.{_≡_}
 use mathlib.Core.List.{List, [], _∷_, _++_}
 use lib.ListN.{length, take, drop}
-use Rattle.notes.specs.Layout.{outputOwners, inputOwners, kindsBase, sourcesBase, feedsBase, slotsSize}
+use Rattle.notes.specs.Layout.{outputOwners, inputOwners, kindsBase}
+use Rattle.notes.specs.Layout.{sourcesBase, feedsBase, slotsSize}
 use Rattle.notes.specs.declared.Counts.{Counts}
 
 -- the slots are all there and the counts are in their limits
@@ -21,5 +22,6 @@ slotsFrom s b n = take ((b + n) - b) (drop b s)
 unfoldable pub bytesOf : List ℕ → Counts → List ℕ
 bytesOf s c =
     (((((((((c .units ∷ []) ++ (c .outputs ∷ [])) ++ (c .inputs ∷ [])) ++ (c .feeds ∷ []))
-    ++ slotsFrom s outputOwners (c .outputs)) ++ slotsFrom s inputOwners (c .inputs)) ++ slotsFrom s kindsBase (c .inputs))
+    ++ slotsFrom s outputOwners (c .outputs)) ++ slotsFrom s inputOwners (c .inputs))
+    ++ slotsFrom s kindsBase (c .inputs))
     ++ slotsFrom s sourcesBase (c .inputs)) ++ slotsFrom s feedsBase (2 * c .feeds))

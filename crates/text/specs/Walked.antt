@@ -23,13 +23,15 @@ pub record Ended (t : List ℕ) : Type 0 where
 pub record Whole (t : List ℕ) (r : Answer) : Type 0 where
   pub ended : r .number ≡ 0 → Ended t
   pub left : (room : ℕ)
-      → reading room t ≡ cond (eqb (r .number) 0) (lineByLine room (rows t)) (stopped (r .number) (r .place))
+      → reading room t ≡ cond (eqb (r .number) 0) (lineByLine room (rows t))
+      (stopped (r .number) (r .place))
 
 -- what the lines give is a refusal, or what the end gives for the draft that is noted
 pub record Walked (t p s : List ℕ) (r : Noted) (lines : ℕ → Reading) : Type 0 where
   pub fit : Fit t p s (r .counts)
   pub left : (room : ℕ) → lines room
-      ≡ cond (eqb (r .number) 0) (ending room (draftOf t p s (r .counts))) (stopped (r .number) (r .place))
+      ≡ cond (eqb (r .number) 0) (ending room (draftOf t p s (r .counts)))
+      (stopped (r .number) (r .place))
 
 -- what is read where there is room
 abbrev pub written : Draft → Reading
@@ -49,4 +51,5 @@ pub record Closed (t p s : List ℕ) (c : Counts) (r : Noted) : Type 0 where
 pub record Noticed (t p s : List ℕ) (r : Noted) : Type 0 where
   pub fit : r .number ≡ 0 → Fit t p s (r .counts)
   pub left : (room : ℕ) → reading room t
-      ≡ cond (eqb (r .number) 0) (roomed room (draftOf t p s (r .counts))) (stopped (r .number) (r .place))
+      ≡ cond (eqb (r .number) 0) (roomed room (draftOf t p s (r .counts)))
+      (stopped (r .number) (r .place))

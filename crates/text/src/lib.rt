@@ -40,7 +40,8 @@ pub fn read(text: &[u8], out: &mut [u8]) -> Answer
       place = reading (length (now (out .entry))) (now (text .entry)) .place;
     } ⌝ }
     ensures { λ r. ⌜ now (out .exit)
-        ≡ fronted (reading (length (now (out .entry))) (now (text .entry)) .bytes) (now (out .entry)) ⌝ }
+        ≡ fronted (reading (length (now (out .entry))) (now (text .entry)) .bytes)
+        (now (out .entry)) ⌝ }
 {
     let mut places = [0u16; PLACES];
     let mut slots = [0u8; SLOTS];

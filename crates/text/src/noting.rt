@@ -19,7 +19,9 @@ use notes::UNJOINED;
 // The first input that is not joined, or the count of inputs.
 fn loose(text: &[u8], places: &Places, slots: &Slots, counts: Counts) -> usize
     requires { ⌜ Fit (now text) (now places) (now slots) counts ⌝ }
-    ensures { λ r. ⌜ r ≡ looseOf (draftOf (now (text .entry)) (now (places .entry)) (now (slots .entry)) counts) ⌝ }
+    ensures { λ r.
+        ⌜ r ≡ looseOf (draftOf (now (text .entry)) (now (places .entry))
+        (now (slots .entry)) counts) ⌝ }
 {
     let inputs = counts.inputs;
     let mut x = 0;
@@ -35,7 +37,8 @@ fn loose(text: &[u8], places: &Places, slots: &Slots, counts: Counts) -> usize
 // Once all lines are noted: 33 where there is no unit, 31 where an input has no join.
 fn close(text: &[u8], places: &Places, slots: &Slots, counts: Counts) -> Noted
     requires { ⌜ Fit (now text) (now places) (now slots) counts ⌝ }
-    ensures { λ r. ⌜ Closed (now (text .entry)) (now (places .entry)) (now (slots .entry)) counts r ⌝ }
+    ensures { λ r.
+        ⌜ Closed (now (text .entry)) (now (places .entry)) (now (slots .entry)) counts r ⌝ }
 {
     let units = counts.units;
     if units == 0 {

@@ -26,7 +26,8 @@ pub fn size(counts: Counts) -> usize
 pub fn pack(slots: &[u8], counts: Counts, out: &mut [u8])
     requires { ⌜ Slotted (now slots) counts ⌝ }
     requires { ⌜ length (bytesOf (now slots) counts) ≤ length (now out) ⌝ }
-    ensures { λ r. ⌜ now (out .exit) ≡ fronted (bytesOf (now (slots .entry)) counts) (now (out .entry)) ⌝ }
+    ensures { λ r.
+        ⌜ now (out .exit) ≡ fronted (bytesOf (now (slots .entry)) counts) (now (out .entry)) ⌝ }
 {
     let outputs = counts.outputs;
     let inputs = counts.inputs;

@@ -18,7 +18,9 @@ pub fn walk(text: &[u8], places: &mut Places, slots: &mut Slots, a: usize) -> No
     requires { ⌜ Ended (now text) ⌝ }
     requires { ⌜ (length (now places) ≡ placesSize) × (length (now slots) ≡ slotsSize) ⌝ }
     requires { ⌜ a ≤ length (now text) ⌝ }
-    ensures { λ r. ⌜ Walked (now (text .entry)) (now (places .exit)) (now (slots .exit)) r (λ room. linesFrom room blank 2 (rows (drop a (now (text .entry))))) ⌝ }
+    ensures { λ r.
+        ⌜ Walked (now (text .entry)) (now (places .exit)) (now (slots .exit)) r
+        (λ room. linesFrom room blank 2 (rows (drop a (now (text .entry))))) ⌝ }
 {
     let mut counts = Counts {
         units: 0,

@@ -9,7 +9,8 @@ use Rattle.grammar.specs.Words.{same as sameBytes}
 use Rattle.fields.proofs.Bytes.{same-lengths, same-on, same-stop, same-end}
 
 abbrev Inv-loop : tie.InvT-loop
-Inv-loop a b i₀ i = (i ≤ length a) × (length a ≡ length b) × (sameBytes a b ≡ sameBytes (drop i a) (drop i b))
+Inv-loop a b i₀ i =
+    (i ≤ length a) × (length a ≡ length b) × (sameBytes a b ≡ sameBytes (drop i a) (drop i b))
 
 abbrev μ-loop : tie.MeasureT-loop
 μ-loop a b i₀ i = length a - i
@@ -28,9 +29,9 @@ shared-slice-read-if2-2 c = search needs
 
 returns-2 : tie.Need-returns-2 Inv-loop μ-loop
 returns-2 c =
-    sym
-    (c .before .before .before .before .loop .inv .2
-    ∙ same-stop _ _ _ (c .before .before .before .loop-test .taken) (search needs) (c .if2 .taken))
+    let loop-test = c.before.before.before.loop-test in
+    let loop = c.before.before.before.before.loop in
+    sym (loop.inv.2 ∙ same-stop _ _ _ loop-test.taken (search needs) c.if2.taken)
 
 add-i : tie.Need-add-i Inv-loop μ-loop
 add-i c = search needs
@@ -39,15 +40,13 @@ loop-less : tie.Need-loop-less Inv-loop μ-loop
 loop-less c = search needs
 
 loop-again : tie.Need-loop-again Inv-loop μ-loop
-loop-again c = (
-  search needs,
-  c .before .before .before .before .loop .inv .1,
-  c .before .before .before .before .loop .inv .2
-      ∙ same-on _ _ _ (c .before .before .before .loop-test .taken) (search needs) (c .if2 .left),
-)
+loop-again c =
+    let loop-test = c.before.before.before.loop-test in
+    let loop = c.before.before.before.before.loop in
+    (search needs, loop.inv.1, loop.inv.2 ∙ same-on _ _ _ loop-test.taken (search needs) c.if2.left)
 
 returns-3 : tie.Need-returns-3 Inv-loop μ-loop
-returns-3 c = sym (c .before .loop .inv .2 ∙ same-end _ _ _ (c .loop-test .left) (search needs))
+returns-3 c = sym (c.before.loop.inv.2 ∙ same-end _ _ _ c.loop-test.left (search needs))
 
 pub same-spec : {M : Type 1} → statement M
 same-spec =

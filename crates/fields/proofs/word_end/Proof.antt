@@ -22,14 +22,16 @@ shared-slice-read-b c = search needs
 
 returns : tie.Need-returns Inv-loop μ-loop
 returns c =
-    sym
-    (c .before .before .before .loop .inv ∙ word-lf _ _ (c .before .before .loop-test .taken) (c .if1 .taken))
+    let loop-test = c.before.before.loop-test in
+    let loop = c.before.before.before.loop in
+    sym (loop.inv ∙ word-lf _ _ loop-test.taken c.if1.taken)
 
 returns-2 : tie.Need-returns-2 Inv-loop μ-loop
 returns-2 c =
-    sym
-    (c .before .before .before .before .loop .inv
-    ∙ word-tab _ _ (c .before .before .before .loop-test .taken) (c .before .if1 .left) (c .if2 .taken))
+    let if1 = c.before.if1 in
+    let loop-test = c.before.before.before.loop-test in
+    let loop = c.before.before.before.before.loop in
+    sym (loop.inv ∙ word-tab _ _ loop-test.taken if1.left c.if2.taken)
 
 add-i : tie.Need-add-i Inv-loop μ-loop
 add-i c = search needs
@@ -39,11 +41,13 @@ loop-less c = search needs
 
 loop-again : tie.Need-loop-again Inv-loop μ-loop
 loop-again c =
-    c .before .before .before .before .loop .inv
-    ∙ word-on _ _ (c .before .before .before .loop-test .taken) (c .before .if1 .left) (c .if2 .left)
+    let if1 = c.before.if1 in
+    let loop-test = c.before.before.before.loop-test in
+    let loop = c.before.before.before.before.loop in
+    loop.inv ∙ word-on _ _ loop-test.taken if1.left c.if2.left
 
 returns-3 : tie.Need-returns-3 Inv-loop μ-loop
-returns-3 c = sym (c .before .loop .inv ∙ word-none _ _ (c .loop-test .left))
+returns-3 c = sym (c.before.loop.inv ∙ word-none _ _ c.loop-test.left)
 
 pub word-end-spec : {M : Type 1} → statement M
 word-end-spec =

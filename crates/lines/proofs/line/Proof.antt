@@ -4,8 +4,9 @@ use Rattle.lines.proofs.line.Statement.{statement}
 use Rattle.lines.proofs.line.Tie as tie
 use native.Mathlib.Omega.{arith}
 use Rattle.lines.proofs.Outcomes.{stops, retold}
-use Rattle.lines.proofs.Keywords.{line-unit, line-out, line-in, line-feed, line-join, line-none}
-use Rattle.lines.proofs.Keywords.{entry-unit, entry-out, entry-in, entry-feed, entry-join}
+use Rattle.lines.proofs.Keywords.{line-unit, line-out, line-in, line-feed}
+use Rattle.lines.proofs.Keywords.{line-join, line-none, entry-unit, entry-out}
+use Rattle.lines.proofs.Keywords.{entry-in, entry-feed, entry-join}
 
 word-requires : tie.Need-word-requires
 word-requires c κs =

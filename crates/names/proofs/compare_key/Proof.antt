@@ -31,7 +31,8 @@ compare-requires : tie.Need-compare-requires
 compare-requires c κs = search needs
 
 returns-3 : tie.Need-returns-3
-returns-3 c = c .compare .ensures ∙ owner-same _ _ _ _ _ _ (omega arith) _ (c .before .wide .ensures)
+returns-3 c =
+    c .compare .ensures ∙ owner-same _ _ _ _ _ _ (omega arith) _ (c .before .wide .ensures)
 
 pub compare-key-spec : {M : Type 1} → statement M
 compare-key-spec =

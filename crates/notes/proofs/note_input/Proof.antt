@@ -32,7 +32,7 @@ add-more : tie.Need-add-more
 add-more c = search needs
 
 returns : tie.Need-returns
-returns c = became-lined _ _ _ _ _ _ _ (c .note-name .ensures .0) (c .note-name .ensures .1)
+returns c = became-lined _ _ _ _ _ _ _ c.note-name.ensures.0 c.note-name.ensures.1
 
 pub note-input-spec : {M : Type 1} → statement M
 note-input-spec =

@@ -40,7 +40,7 @@ put-in-requires c κs = search needs
 
 returns : tie.Need-returns
 unfolding namedPlaces namedSlots
-returns c = (refl, c .put-in .ensures)
+returns c = (refl, c.put-in.ensures)
 
 pub note-name-spec : {M : Type 1} → statement M
 note-name-spec =

@@ -32,8 +32,11 @@ is-allowed-requires c κs = search needs
 
 returns : tie.Need-returns Inv-loop μ-loop
 returns c =
-    found _ _ _ (c .before .before .before .loop-test .taken) (c .before .before .before .before .loop .inv .1)
-    (fails _ (sym (c .before .is-allowed .ensures) ∙ not-true _ (c .if1 .taken)))
+    let is-allowed = c.before.is-allowed in
+    let loop-test = c.before.before.before.loop-test in
+    let loop = c.before.before.before.before.loop in
+    found _ _ _ loop-test.taken loop.inv.1
+    (fails _ (sym is-allowed.ensures ∙ not-true _ c.if1.taken))
     ∙ sym (bad-least _)
 
 add-i : tie.Need-add-i Inv-loop μ-loop
@@ -43,15 +46,17 @@ loop-less : tie.Need-loop-less Inv-loop μ-loop
 loop-less c = omega arith
 
 loop-again : tie.Need-loop-again Inv-loop μ-loop
-loop-again c = (
-  omega arith,
-  below-more _ _ (c .before .before .before .before .loop .inv .1)
-      (rw (sym (c .before .is-allowed .ensures) ∙ not-false _ (c .if1 .left)) tt),
-)
+loop-again c =
+    let is-allowed = c.before.is-allowed in
+    let loop = c.before.before.before.before.loop in (
+      omega arith,
+      below-more _ _ loop.inv.1 (rw (sym is-allowed.ensures ∙ not-false _ c.if1.left) tt),
+    )
 
 returns-2 : tie.Need-returns-2 Inv-loop μ-loop
 returns-2 c =
-    not-found _ _ _ (omega arith) (c .before .loop .inv .0) (c .before .loop .inv .1) ∙ sym (bad-least _)
+    let loop = c.before.loop in
+    not-found _ _ _ (omega arith) loop.inv.0 loop.inv.1 ∙ sym (bad-least _)
 
 pub first-bad-spec : {M : Type 1} → statement M
 first-bad-spec =

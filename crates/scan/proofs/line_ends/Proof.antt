@@ -11,7 +11,8 @@ use Rattle.grammar.specs.Rows.{times}
 use Rattle.scan.proofs.Scanning.{counts, passes, times-all}
 
 abbrev Inv-loop : tie.InvT-loop
-Inv-loop text count₀ i₀ count i = (i ≤ length text) × ((count ≤ i) × (count ≡ times lf (take i text)))
+Inv-loop text count₀ i₀ count i =
+    (i ≤ length text) × ((count ≤ i) × (count ≡ times lf (take i text)))
 
 abbrev μ-loop : tie.MeasureT-loop
 μ-loop text count₀ i₀ count i = length text - i
@@ -34,28 +35,20 @@ loop-less c = omega arith
 
 loop-again : tie.Need-loop-again Inv-loop μ-loop
 loop-again c =
+    let loop-test = c.before.before.loop-test in
+    let loop = c.before.before.before.loop in
     ⊎-elim
     (λ w. (
       omega arith,
-      (
-        omega (arith, w .1),
-        w .1
-            ∙ counts _ _ _ (c .before .before .loop-test .taken) (c .before .before .before .loop .inv .1 .1)
-            (w .0 .taken),
-      ),
+      (omega (arith, w .1), w .1 ∙ counts _ _ _ loop-test.taken loop.inv.1.1 (w .0 .taken)),
     ))
     (λ w. (
       omega arith,
-      (
-        omega (arith, w .1),
-        w .1
-            ∙ passes _ _ _ (c .before .before .loop-test .taken) (c .before .before .before .loop .inv .1 .1)
-            (w .0 .left),
-      ),
-    )) (c .if1 .came)
+      (omega (arith, w .1), w .1 ∙ passes _ _ _ loop-test.taken loop.inv.1.1 (w .0 .left)),
+    )) c.if1.came
 
 returns : tie.Need-returns Inv-loop μ-loop
-returns c = c .before .loop .inv .1 .1 ∙ times-all _ _ _ (c .loop-test .left)
+returns c = c.before.loop.inv.1.1 ∙ times-all _ _ _ c.loop-test.left
 
 pub line-ends-spec : {M : Type 1} → statement M
 line-ends-spec =

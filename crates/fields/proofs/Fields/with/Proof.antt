@@ -19,7 +19,7 @@ add-fields-2 c = search needs
 
 returns : tie.Need-returns
 unfolding oneMore keep
-returns c = rw (le-leb _ _ (c .if1 .taken))
+returns c = rw (le-leb _ _ c.if1.taken)
 
 cast-fields-2 : tie.Need-cast-fields-2
 cast-fields-2 c = search needs
@@ -41,7 +41,7 @@ element-write-fields-2 c = search needs
 
 returns-2 : tie.Need-returns-2
 unfolding oneMore keep
-returns-2 c = rw (lt-leb _ _ (c .if1 .left))
+returns-2 c = rw (lt-leb _ _ c.if1.left)
 
 pub with-spec : {M : Type 1} → statement M
 with-spec =

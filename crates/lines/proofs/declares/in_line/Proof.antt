@@ -173,8 +173,8 @@ named-requires c κs = (
     arith,
     c .before .before .before .before .before .if3 .left,
     c .before .before .before
-        .before .before .before .before .before .before .before .before .before .before .before .before
-        .pre .0 .units-most,
+        .before .before .before .before .before .before .before .before .before .before .before
+        .before .pre .0 .units-most,
   ),
   omega (
     arith,

@@ -174,15 +174,15 @@ wired-requires c κs = (
     c .before .before .before .before .before .before .before .before .before .port
         .ensures .some (c .before .before .before .before .before .before .before .if2 .left) .1 .0,
     c
-        .before .before .before .before .before .before .before .before .before .before .before .before
-        .before .before .pre .0 .inputs-most,
+        .before .before .before .before .before .before .before .before .before .before .before
+        .before .before .before .pre .0 .inputs-most,
   ),
   omega (
     arith,
     c .before .before .before .if3 .left,
     c
-        .before .before .before .before .before .before .before .before .before .before .before .before
-        .before .before .pre .0 .outputs-most,
+        .before .before .before .before .before .before .before .before .before .before .before
+        .before .before .before .pre .0 .outputs-most,
   ),
 )
 

@@ -141,7 +141,8 @@ wired-requires c κs = (
   omega (
     arith,
     c .before .before .before .before .before
-        .before .before .port .ensures .some (c .before .before .before .before .before .if2 .left) .1
+        .before .before .port .ensures .some
+        (c .before .before .before .before .before .if2 .left) .1
         .0,
     c .before .before .before .before .before .before .before .before .before .before .before
         .before .pre .0 .outputs-most,

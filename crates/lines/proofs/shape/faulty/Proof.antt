@@ -7,7 +7,8 @@ use mathlib.Core.Path.{_≡_, refl}
 use native.Mathlib.Omega.{arith}
 use Rattle.grammar.specs.Rows.{rowAt}
 use Rattle.grammar.specs.Lines.{faulty}
-use Rattle.lines.proofs.Counted.{faulty-first, faulty-on, no-name-empty, no-name-long, a-name, field-size, faulty-none}
+use Rattle.lines.proofs.Counted.{faulty-first, faulty-on, no-name-empty}
+use Rattle.lines.proofs.Counted.{no-name-long, a-name, field-size, faulty-none}
 
 abbrev Inv-loop : tie.InvT-loop
 Inv-loop text at names fields i₀ i = (i ≤ names) × (faulty (rowAt text at) i ≡ 0)

@@ -13,7 +13,8 @@ use Rattle.names.specs.Alike.{differs, shorter}
 use Rattle.names.proofs.Stretches.{shorter-first, shorter-second, alike-at, differ-at}
 
 abbrev Inv-loop : tie.InvT-loop
-Inv-loop p q most i₀ i = (most ≡ shorter p q) × ((i ≤ most) × ((k : ℕ) → k < i → T (not (differs p q k))))
+Inv-loop p q most i₀ i =
+    (most ≡ shorter p q) × ((i ≤ most) × ((k : ℕ) → k < i → T (not (differs p q k))))
 
 abbrev μ-loop : tie.MeasureT-loop
 μ-loop p q most i₀ i = most - i

@@ -4,7 +4,8 @@ use Rattle.names.proofs.words.compare.Statement.{statement}
 use Rattle.names.proofs.words.compare.Tie as tie
 use mathlib.Core.Path.{sym, _∙_}
 use native.Mathlib.Omega.{arith}
-use Rattle.names.proofs.Walk.{is-open, ends-before, lower-byte, higher-byte, both-end, goes-on}
+use Rattle.names.proofs.Walk.{is-open, ends-before, lower-byte}
+use Rattle.names.proofs.Walk.{higher-byte, both-end, goes-on}
 
 alike-requires : tie.Need-alike-requires
 alike-requires c κs = search needs

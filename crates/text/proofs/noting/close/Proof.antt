@@ -5,7 +5,7 @@ use Rattle.text.proofs.noting.close.Tie as tie
 use Rattle.text.proofs.Noticing.{close-33, close-31, close-none}
 
 returns : tie.Need-returns
-returns c = close-33 _ _ _ _ (c .if1 .taken)
+returns c = close-33 _ _ _ _ c.if1.taken
 
 loose-requires : tie.Need-loose-requires
 loose-requires c κs = search needs
@@ -24,11 +24,16 @@ wide-requires c κs = search needs
 
 returns-2 : tie.Need-returns-2
 returns-2 c =
-    close-31 _ _ _ _ (c .before .before .before .before .if1 .left) _
-    (c .before .before .before .loose .ensures) (c .before .before .if2 .taken) _ (c .wide .ensures)
+    let if2 = c.before.before.if2 in
+    let loose = c.before.before.before.loose in
+    let if1 = c.before.before.before.before.if1 in
+    close-31 _ _ _ _ if1.left _ loose.ensures if2.taken _ c.wide.ensures
 
 returns-3 : tie.Need-returns-3
-returns-3 c = close-none _ _ _ _ (c .before .before .if1 .left) _ (c .before .loose .ensures) (c .if2 .left)
+returns-3 c =
+    let loose = c.before.loose in
+    let if1 = c.before.before.if1 in
+    close-none _ _ _ _ if1.left _ loose.ensures c.if2.left
 
 pub close-spec : {M : Type 1} → statement M
 close-spec =

@@ -13,7 +13,8 @@ use Rattle.notes.specs.Notes.{isLoose}
 use Rattle.notes.proofs.Slots.{loose-found}
 
 abbrev Inv-loop : tie.InvT-loop
-Inv-loop text places slots inputs x₀ x = (x ≤ inputs) × ((k : ℕ) → k < x → T (not (isLoose slots k)))
+Inv-loop text places slots inputs x₀ x =
+    (x ≤ inputs) × ((k : ℕ) → k < x → T (not (isLoose slots k)))
 
 abbrev μ-loop : tie.MeasureT-loop
 μ-loop text places slots inputs x₀ x = inputs - x
@@ -22,17 +23,17 @@ loop-holds : tie.Need-loop-holds Inv-loop μ-loop
 loop-holds c = (omega arith, λ k h. absurd (omega arith))
 
 add-if1 : tie.Need-add-if1 Inv-loop μ-loop
-add-if1 c = omega (arith, c .before .before .pre .inputs-most)
+add-if1 c = omega (arith, c.before.before.pre.inputs-most)
 
 element-copy-out-if1 : tie.Need-element-copy-out-if1 Inv-loop μ-loop
-element-copy-out-if1 c = omega (arith, c .before .before .pre .inputs-most)
+element-copy-out-if1 c = omega (arith, c.before.before.pre.inputs-most)
 
 returns : tie.Need-returns Inv-loop μ-loop
 unfolding isLoose
 returns c =
-    found _ _ _ (c .before .before .loop-test .taken) (c .before .before .before .loop .inv .1)
-    (eq-true _ _ (c .if1 .taken))
-    ∙ loose-found _ _ _ _
+    let loop-test = c.before.before.loop-test in
+    let loop = c.before.before.before.loop in
+    found _ _ _ loop-test.taken loop.inv.1 (eq-true _ _ c.if1.taken) ∙ loose-found _ _ _ _
 
 add-x : tie.Need-add-x Inv-loop μ-loop
 add-x c = omega arith
@@ -43,11 +44,13 @@ loop-less c = omega arith
 loop-again : tie.Need-loop-again Inv-loop μ-loop
 unfolding isLoose
 loop-again c =
-    (omega arith, below-more _ _ (c .before .before .before .loop .inv .1) (eq-false _ _ (c .if1 .left)))
+    let loop = c.before.before.before.loop in
+    (omega arith, below-more _ _ loop.inv.1 (eq-false _ _ c.if1.left))
 
 returns-2 : tie.Need-returns-2 Inv-loop μ-loop
 returns-2 c =
-    not-found _ _ _ (omega arith) (c .before .loop .inv .0) (c .before .loop .inv .1) ∙ loose-found _ _ _ _
+    let loop = c.before.loop in
+    not-found _ _ _ (omega arith) loop.inv.0 loop.inv.1 ∙ loose-found _ _ _ _
 
 pub loose-spec : {M : Type 1} → statement M
 loose-spec =

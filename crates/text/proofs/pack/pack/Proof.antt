@@ -63,13 +63,16 @@ put-requires-2 c κs = search needs
 
 add-put-3 : tie.Need-add-put-3
 add-put-3 c =
+    let pre = c .before .before .before .before .before .before .before .before .before .before
+    .before .before .before .before .before .before .before .before .before .before .before .before
+    .before .before .before .before .before .before .before .before .pre in
     omega (
       arith,
-      c .before .before .before .before .before .before .before .before .before .before .before .before .before .before .before .before .before .before .before .before .before .before .before .before .before .before .before .before .before .before .pre .0 .long,
-      c .before .before .before .before .before .before .before .before .before .before .before .before .before .before .before .before .before .before .before .before .before .before .before .before .before .before .before .before .before .before .pre .0 .units-most,
-      c .before .before .before .before .before .before .before .before .before .before .before .before .before .before .before .before .before .before .before .before .before .before .before .before .before .before .before .before .before .before .pre .0 .outputs-most,
-      c .before .before .before .before .before .before .before .before .before .before .before .before .before .before .before .before .before .before .before .before .before .before .before .before .before .before .before .before .before .before .pre .0 .inputs-most,
-      c .before .before .before .before .before .before .before .before .before .before .before .before .before .before .before .before .before .before .before .before .before .before .before .before .before .before .before .before .before .before .pre .0 .feeds-most,
+      pre.0.long,
+      pre.0.units-most,
+      pre.0.outputs-most,
+      pre.0.inputs-most,
+      pre.0.feeds-most,
     )
 
 sub-put-3 : tie.Need-sub-put-3
@@ -80,13 +83,16 @@ part-put-start-3 c = search needs
 
 part-put-end-3 : tie.Need-part-put-end-3
 part-put-end-3 c =
+    let pre = c .before .before .before .before .before .before .before .before .before .before
+    .before .before .before .before .before .before .before .before .before .before .before .before
+    .before .before .before .before .before .before .before .before .pre in
     omega (
       arith,
-      c .before .before .before .before .before .before .before .before .before .before .before .before .before .before .before .before .before .before .before .before .before .before .before .before .before .before .before .before .before .before .pre .0 .long,
-      c .before .before .before .before .before .before .before .before .before .before .before .before .before .before .before .before .before .before .before .before .before .before .before .before .before .before .before .before .before .before .pre .0 .units-most,
-      c .before .before .before .before .before .before .before .before .before .before .before .before .before .before .before .before .before .before .before .before .before .before .before .before .before .before .before .before .before .before .pre .0 .outputs-most,
-      c .before .before .before .before .before .before .before .before .before .before .before .before .before .before .before .before .before .before .before .before .before .before .before .before .before .before .before .before .before .before .pre .0 .inputs-most,
-      c .before .before .before .before .before .before .before .before .before .before .before .before .before .before .before .before .before .before .before .before .before .before .before .before .before .before .before .before .before .before .pre .0 .feeds-most,
+      pre.0.long,
+      pre.0.units-most,
+      pre.0.outputs-most,
+      pre.0.inputs-most,
+      pre.0.feeds-most,
     )
 
 put-requires-3 : tie.Need-put-requires-3
@@ -94,13 +100,17 @@ put-requires-3 c κs = search needs
 
 add-put-4 : tie.Need-add-put-4
 add-put-4 c =
+    let pre = c .before .before .before .before .before .before .before .before .before .before
+    .before .before .before .before .before .before .before .before .before .before .before .before
+    .before .before .before .before .before .before .before .before .before .before .before .before
+    .before .pre in
     omega (
       arith,
-      c .before .before .before .before .before .before .before .before .before .before .before .before .before .before .before .before .before .before .before .before .before .before .before .before .before .before .before .before .before .before .before .before .before .before .before .pre .0 .long,
-      c .before .before .before .before .before .before .before .before .before .before .before .before .before .before .before .before .before .before .before .before .before .before .before .before .before .before .before .before .before .before .before .before .before .before .before .pre .0 .units-most,
-      c .before .before .before .before .before .before .before .before .before .before .before .before .before .before .before .before .before .before .before .before .before .before .before .before .before .before .before .before .before .before .before .before .before .before .before .pre .0 .outputs-most,
-      c .before .before .before .before .before .before .before .before .before .before .before .before .before .before .before .before .before .before .before .before .before .before .before .before .before .before .before .before .before .before .before .before .before .before .before .pre .0 .inputs-most,
-      c .before .before .before .before .before .before .before .before .before .before .before .before .before .before .before .before .before .before .before .before .before .before .before .before .before .before .before .before .before .before .before .before .before .before .before .pre .0 .feeds-most,
+      pre.0.long,
+      pre.0.units-most,
+      pre.0.outputs-most,
+      pre.0.inputs-most,
+      pre.0.feeds-most,
     )
 
 sub-put-4 : tie.Need-sub-put-4
@@ -111,13 +121,17 @@ part-put-start-4 c = search needs
 
 part-put-end-4 : tie.Need-part-put-end-4
 part-put-end-4 c =
+    let pre = c .before .before .before .before .before .before .before .before .before .before
+    .before .before .before .before .before .before .before .before .before .before .before .before
+    .before .before .before .before .before .before .before .before .before .before .before .before
+    .before .pre in
     omega (
       arith,
-      c .before .before .before .before .before .before .before .before .before .before .before .before .before .before .before .before .before .before .before .before .before .before .before .before .before .before .before .before .before .before .before .before .before .before .before .pre .0 .long,
-      c .before .before .before .before .before .before .before .before .before .before .before .before .before .before .before .before .before .before .before .before .before .before .before .before .before .before .before .before .before .before .before .before .before .before .before .pre .0 .units-most,
-      c .before .before .before .before .before .before .before .before .before .before .before .before .before .before .before .before .before .before .before .before .before .before .before .before .before .before .before .before .before .before .before .before .before .before .before .pre .0 .outputs-most,
-      c .before .before .before .before .before .before .before .before .before .before .before .before .before .before .before .before .before .before .before .before .before .before .before .before .before .before .before .before .before .before .before .before .before .before .before .pre .0 .inputs-most,
-      c .before .before .before .before .before .before .before .before .before .before .before .before .before .before .before .before .before .before .before .before .before .before .before .before .before .before .before .before .before .before .before .before .before .before .before .pre .0 .feeds-most,
+      pre.0.long,
+      pre.0.units-most,
+      pre.0.outputs-most,
+      pre.0.inputs-most,
+      pre.0.feeds-most,
     )
 
 put-requires-4 : tie.Need-put-requires-4
@@ -125,24 +139,32 @@ put-requires-4 c κs = search needs
 
 mul-put : tie.Need-mul-put
 mul-put c =
+    let pre = c .before .before .before .before .before .before .before .before .before .before
+    .before .before .before .before .before .before .before .before .before .before .before .before
+    .before .before .before .before .before .before .before .before .before .before .before .before
+    .before .before .before .before .before .before .pre in
     omega (
       arith,
-      c .before .before .before .before .before .before .before .before .before .before .before .before .before .before .before .before .before .before .before .before .before .before .before .before .before .before .before .before .before .before .before .before .before .before .before .before .before .before .before .before .pre .0 .long,
-      c .before .before .before .before .before .before .before .before .before .before .before .before .before .before .before .before .before .before .before .before .before .before .before .before .before .before .before .before .before .before .before .before .before .before .before .before .before .before .before .before .pre .0 .units-most,
-      c .before .before .before .before .before .before .before .before .before .before .before .before .before .before .before .before .before .before .before .before .before .before .before .before .before .before .before .before .before .before .before .before .before .before .before .before .before .before .before .before .pre .0 .outputs-most,
-      c .before .before .before .before .before .before .before .before .before .before .before .before .before .before .before .before .before .before .before .before .before .before .before .before .before .before .before .before .before .before .before .before .before .before .before .before .before .before .before .before .pre .0 .inputs-most,
-      c .before .before .before .before .before .before .before .before .before .before .before .before .before .before .before .before .before .before .before .before .before .before .before .before .before .before .before .before .before .before .before .before .before .before .before .before .before .before .before .before .pre .0 .feeds-most,
+      pre.0.long,
+      pre.0.units-most,
+      pre.0.outputs-most,
+      pre.0.inputs-most,
+      pre.0.feeds-most,
     )
 
 add-put-5 : tie.Need-add-put-5
 add-put-5 c =
+    let pre = c .before .before .before .before .before .before .before .before .before .before
+    .before .before .before .before .before .before .before .before .before .before .before .before
+    .before .before .before .before .before .before .before .before .before .before .before .before
+    .before .before .before .before .before .before .pre in
     omega (
       arith,
-      c .before .before .before .before .before .before .before .before .before .before .before .before .before .before .before .before .before .before .before .before .before .before .before .before .before .before .before .before .before .before .before .before .before .before .before .before .before .before .before .before .pre .0 .long,
-      c .before .before .before .before .before .before .before .before .before .before .before .before .before .before .before .before .before .before .before .before .before .before .before .before .before .before .before .before .before .before .before .before .before .before .before .before .before .before .before .before .pre .0 .units-most,
-      c .before .before .before .before .before .before .before .before .before .before .before .before .before .before .before .before .before .before .before .before .before .before .before .before .before .before .before .before .before .before .before .before .before .before .before .before .before .before .before .before .pre .0 .outputs-most,
-      c .before .before .before .before .before .before .before .before .before .before .before .before .before .before .before .before .before .before .before .before .before .before .before .before .before .before .before .before .before .before .before .before .before .before .before .before .before .before .before .before .pre .0 .inputs-most,
-      c .before .before .before .before .before .before .before .before .before .before .before .before .before .before .before .before .before .before .before .before .before .before .before .before .before .before .before .before .before .before .before .before .before .before .before .before .before .before .before .before .pre .0 .feeds-most,
+      pre.0.long,
+      pre.0.units-most,
+      pre.0.outputs-most,
+      pre.0.inputs-most,
+      pre.0.feeds-most,
     )
 
 sub-put-5 : tie.Need-sub-put-5
@@ -153,13 +175,17 @@ part-put-start-5 c = search needs
 
 part-put-end-5 : tie.Need-part-put-end-5
 part-put-end-5 c =
+    let pre = c .before .before .before .before .before .before .before .before .before .before
+    .before .before .before .before .before .before .before .before .before .before .before .before
+    .before .before .before .before .before .before .before .before .before .before .before .before
+    .before .before .before .before .before .before .pre in
     omega (
       arith,
-      c .before .before .before .before .before .before .before .before .before .before .before .before .before .before .before .before .before .before .before .before .before .before .before .before .before .before .before .before .before .before .before .before .before .before .before .before .before .before .before .before .pre .0 .long,
-      c .before .before .before .before .before .before .before .before .before .before .before .before .before .before .before .before .before .before .before .before .before .before .before .before .before .before .before .before .before .before .before .before .before .before .before .before .before .before .before .before .pre .0 .units-most,
-      c .before .before .before .before .before .before .before .before .before .before .before .before .before .before .before .before .before .before .before .before .before .before .before .before .before .before .before .before .before .before .before .before .before .before .before .before .before .before .before .before .pre .0 .outputs-most,
-      c .before .before .before .before .before .before .before .before .before .before .before .before .before .before .before .before .before .before .before .before .before .before .before .before .before .before .before .before .before .before .before .before .before .before .before .before .before .before .before .before .pre .0 .inputs-most,
-      c .before .before .before .before .before .before .before .before .before .before .before .before .before .before .before .before .before .before .before .before .before .before .before .before .before .before .before .before .before .before .before .before .before .before .before .before .before .before .before .before .pre .0 .feeds-most,
+      pre.0.long,
+      pre.0.units-most,
+      pre.0.outputs-most,
+      pre.0.inputs-most,
+      pre.0.feeds-most,
     )
 
 put-requires-5 : tie.Need-put-requires-5
@@ -167,36 +193,50 @@ put-requires-5 c κs = search needs
 
 same-length : tie.Need-same-length
 same-length c =
-    put-long (c .before .before .put5 .ensures)
-    ∙ put-long (c .before .before .before .before .before .before .before .put4 .ensures)
-    ∙ put-long
-    (c .before .before .before .before .before .before .before .before .before .before .before .before .put3 .ensures)
-    ∙ put-long
-    (c .before .before .before .before .before .before .before .before .before .before .before .before .before .before .before .before .before .put2 .ensures)
-    ∙ put-long
-    (c .before .before .before .before .before .before .before .before .before .before .before .before .before .before .before .before .before .before .before .before .before .before .put .ensures)
-    ∙ put-long
-    (c .before .before .before .before .before .before .before .before .before .before .before .before .before .before .before .before .before .before .before .before .before .before .before .before .before .before .before .put-byte4 .ensures)
-    ∙ put-long
-    (c .before .before .before .before .before .before .before .before .before .before .before .before .before .before .before .before .before .before .before .before .before .before .before .before .before .before .before .before .before .before .before .put-byte3 .ensures)
-    ∙ put-long
-    (c .before .before .before .before .before .before .before .before .before .before .before .before .before .before .before .before .before .before .before .before .before .before .before .before .before .before .before .before .before .before .before .before .before .before .before .put-byte2 .ensures)
-    ∙ put-long
-    (c .before .before .before .before .before .before .before .before .before .before .before .before .before .before .before .before .before .before .before .before .before .before .before .before .before .before .before .before .before .before .before .before .before .before .before .before .before .before .before .put-byte .ensures)
+    let put5 = c.before.before.put5 in
+    let at-put4 = c.before.before.before.before.before.before.before in
+    let put4 = at-put4.put4 in
+    let at-put3 = at-put4.before.before.before.before.before in
+    let put3 = at-put3.put3 in
+    let at-put2 = at-put3.before.before.before.before.before in
+    let put2 = at-put2.put2 in
+    let at-put = at-put2.before.before.before.before.before in
+    let put = at-put.put in
+    let put-byte4 = at-put.before.before.before.before.before.put-byte4 in
+    let at-put-byte3 = at-put.before.before.before.before.before.before.before.before.before in
+    let put-byte3 = at-put-byte3.put-byte3 in
+    let put-byte2 = at-put-byte3.before.before.before.before.put-byte2 in
+    let put-byte = at-put-byte3.before.before.before.before.before.before.before.before.put-byte in
+    put-long put5.ensures
+    ∙ put-long put4.ensures
+    ∙ put-long put3.ensures
+    ∙ put-long put2.ensures
+    ∙ put-long put.ensures
+    ∙ put-long put-byte4.ensures
+    ∙ put-long put-byte3.ensures
+    ∙ put-long put-byte2.ensures
+    ∙ put-long put-byte.ensures
 
 returns : tie.Need-returns
 returns c =
-    puts-packed _ _ _
-    (c .before .before .before .before .before .before .before .before .before .before .before .before .before .before .before .before .before .before .before .before .before .before .before .before .before .before .before .before .before .before .before .before .before .before .before .before .before .before .before .before .before .before .before .before .pre .1)
-    (c .before .before .before .before .before .before .before .before .before .before .before .before .before .before .before .before .before .before .before .before .before .before .before .before .before .before .before .before .before .before .before .before .before .before .before .before .before .before .before .put-byte .ensures)
-    (c .before .before .before .before .before .before .before .before .before .before .before .before .before .before .before .before .before .before .before .before .before .before .before .before .before .before .before .before .before .before .before .before .before .before .before .put-byte2 .ensures)
-    (c .before .before .before .before .before .before .before .before .before .before .before .before .before .before .before .before .before .before .before .before .before .before .before .before .before .before .before .before .before .before .before .put-byte3 .ensures)
-    (c .before .before .before .before .before .before .before .before .before .before .before .before .before .before .before .before .before .before .before .before .before .before .before .before .before .before .before .put-byte4 .ensures)
-    (c .before .before .before .before .before .before .before .before .before .before .before .before .before .before .before .before .before .before .before .before .before .before .put .ensures)
-    (c .before .before .before .before .before .before .before .before .before .before .before .before .before .before .before .before .before .put2 .ensures)
-    (c .before .before .before .before .before .before .before .before .before .before .before .before .put3 .ensures)
-    (c .before .before .before .before .before .before .before .put4 .ensures)
-    (c .before .before .put5 .ensures)
+    let put5 = c.before.before.put5 in
+    let at-put4 = c.before.before.before.before.before.before.before in
+    let put4 = at-put4.put4 in
+    let at-put3 = at-put4.before.before.before.before.before in
+    let put3 = at-put3.put3 in
+    let at-put2 = at-put3.before.before.before.before.before in
+    let put2 = at-put2.put2 in
+    let at-put = at-put2.before.before.before.before.before in
+    let put = at-put.put in
+    let put-byte4 = at-put.before.before.before.before.before.put-byte4 in
+    let at-put-byte3 = at-put.before.before.before.before.before.before.before.before.before in
+    let put-byte3 = at-put-byte3.put-byte3 in
+    let put-byte2 = at-put-byte3.before.before.before.before.put-byte2 in
+    let at-put-byte = at-put-byte3.before.before.before.before.before.before.before.before in
+    let put-byte = at-put-byte.put-byte in
+    let pre = at-put-byte.before.before.before.before.before.pre in
+    puts-packed _ _ _ pre.1 put-byte.ensures put-byte2.ensures put-byte3.ensures put-byte4.ensures
+    put.ensures put2.ensures put3.ensures put4.ensures put5.ensures
 
 pub pack-spec : {M : Type 1} → statement M
 pack-spec =

@@ -5,14 +5,15 @@ use Rattle.text.proofs.whole.check.Tie as tie
 use native.Mathlib.Omega.{arith}
 use lib.Seq.{length-take-le}
 use Rattle.grammar.specs.Words.{lf}
-use Rattle.text.proofs.Checks.{check-empty, check-long, check-21, check-22, check-passed, times-le, times-part}
+use Rattle.text.proofs.Checks.{check-empty, check-long, check-21, check-22}
+use Rattle.text.proofs.Checks.{check-passed, times-le, times-part}
 use mathlib.Core.Path.{sym}
 
 returns : tie.Need-returns
-returns c = check-empty _ (c .if1 .taken)
+returns c = check-empty _ c.if1.taken
 
 returns-2 : tie.Need-returns-2
-returns-2 c = check-long _ (c .before .if1 .left) (c .if2 .taken)
+returns-2 c = check-long _ c.before.if1.left c.if2.taken
 
 sub-if3 : tie.Need-sub-if3
 sub-if3 c = search needs
@@ -25,16 +26,15 @@ line-ends-requires c κs = search needs
 
 add-t9 : tie.Need-add-t9
 add-t9 c =
-    omega (
-      arith,
-      c .line-ends .ensures,
-      times-le lf (c .before .before .before .before .before .before .args .text .now),
-    )
+    let args = c.before.before.before.before.before.before.args in
+    omega (arith, c.line-ends.ensures, times-le lf args.text.now)
 
 returns-3 : tie.Need-returns-3
 returns-3 c =
-    check-21 _ (c .before .before .before .before .if1 .left) (c .before .before .before .if2 .left)
-    (c .before .if3 .taken) _ (c .line-ends .ensures)
+    let if3 = c.before.if3 in
+    let if2 = c.before.before.before.if2 in
+    let if1 = c.before.before.before.before.if1 in
+    check-21 _ if1.left if2.left if3.taken _ c.line-ends.ensures
 
 first-bad-requires : tie.Need-first-bad-requires
 first-bad-requires c κs = search needs
@@ -47,25 +47,27 @@ line-ends-requires-2 c κs = search needs
 
 add-t13 : tie.Need-add-t13
 add-t13 c =
-    omega (
-      arith,
-      c .line-ends2 .ensures,
-      times-part lf (c .before .before .before .first-bad .result)
-          (c .before .before .before .before .before .before .before .before .before .args .text .now) (omega arith),
-    )
+    let first-bad = c.before.before.before.first-bad in
+    let args = c.before.before.before.before.before.before.before.before.before.args in
+    omega (arith, c.line-ends2.ensures, times-part lf first-bad.result args.text.now (omega arith))
 
 returns-4 : tie.Need-returns-4
 returns-4 c =
-    check-22 _ (c .before .before .before .before .before .before .before .if1 .left)
-    (c .before .before .before .before .before .before .if2 .left)
-    (c .before .before .before .before .if3 .left) _ (c .before .before .before .first-bad .ensures)
-    (c .before .before .if4 .taken) _ (c .line-ends2 .ensures)
+    let if4 = c.before.before.if4 in
+    let first-bad = c.before.before.before.first-bad in
+    let if3 = c.before.before.before.before.if3 in
+    let at-if2 = c.before.before.before.before.before.before in
+    let if2 = at-if2.if2 in
+    let if1 = at-if2.before.if1 in
+    check-22 _ if1.left if2.left if3.left _ first-bad.ensures if4.taken _ c.line-ends2.ensures
 
 returns-5 : tie.Need-returns-5
 returns-5 c =
-    check-passed _ (c .before .before .before .before .before .if1 .left)
-    (c .before .before .before .before .if2 .left) (c .before .before .if3 .left) _
-    (c .before .first-bad .ensures) (c .if4 .left)
+    let first-bad = c.before.first-bad in
+    let if3 = c.before.before.if3 in
+    let if2 = c.before.before.before.before.if2 in
+    let if1 = c.before.before.before.before.before.if1 in
+    check-passed _ if1.left if2.left if3.left _ first-bad.ensures c.if4.left
 
 pub check-spec : {M : Type 1} → statement M
 check-spec =

@@ -10,7 +10,7 @@ use Rattle.lines.proofs.Outcomes.{first-word, word-here, word-ends}
 use Rattle.text.proofs.Checks.{version-count, version-word, version-other, version-one}
 
 returns : tie.Need-returns
-returns c = version-count _ _ (c .before .before .pre .count-is) (c .if1 .taken)
+returns c = version-count _ _ c.before.before.pre.count-is c.if1.taken
 
 element-copy-out-wide : tie.Need-element-copy-out-wide
 element-copy-out-wide c = search needs
@@ -26,21 +26,21 @@ wide-requires-2 c κs = search needs
 
 sub-same : tie.Need-sub-same
 sub-same c =
-    word-ends _ _ _ (c .before .before .before .before .before .before .pre) 0 _ _ (omega arith)
-    (c .before .before .before .before .before .before .pre .some) (c .before .before .wide .ensures)
-    (c .wide2 .ensures) .0
+    let wide = c.before.before.wide in
+    let pre = c.before.before.before.before.before.before.pre in
+    word-ends _ _ _ pre 0 _ _ (omega arith) pre.some wide.ensures c.wide2.ensures .0
 
 part-same-start : tie.Need-part-same-start
 part-same-start c =
-    word-ends _ _ _ (c .before .before .before .before .before .before .pre) 0 _ _ (omega arith)
-    (c .before .before .before .before .before .before .pre .some) (c .before .before .wide .ensures)
-    (c .wide2 .ensures) .0
+    let wide = c.before.before.wide in
+    let pre = c.before.before.before.before.before.before.pre in
+    word-ends _ _ _ pre 0 _ _ (omega arith) pre.some wide.ensures c.wide2.ensures .0
 
 part-same-end : tie.Need-part-same-end
 part-same-end c =
-    word-ends _ _ _ (c .before .before .before .before .before .before .pre) 0 _ _ (omega arith)
-    (c .before .before .before .before .before .before .pre .some) (c .before .before .wide .ensures)
-    (c .wide2 .ensures) .1
+    let wide = c.before.before.wide in
+    let pre = c.before.before.before.before.before.before.pre in
+    word-ends _ _ _ pre 0 _ _ (omega arith) pre.some wide.ensures c.wide2.ensures .1
 
 slice-aggregate-same : tie.Need-slice-aggregate-same
 slice-aggregate-same c = search needs
@@ -51,13 +51,14 @@ same-requires c κs = search needs
 returns-2 : tie.Need-returns-2
 unfolding stretch
 returns-2 c =
-    version-word _ _
-    (c .before .before .before .before .before .before .before .before .before .before .pre .count-is)
-    (c .before .before .before .before .before .before .before .before .if1 .left) _
-    (first-word _ _ _ (c .before .before .before .before .before .before .before .before .before .before .pre) _
-    _ (c .before .before .before .before .before .before .wide .ensures)
-    (c .before .before .before .before .wide2 .ensures))
-    (sym (c .before .same .ensures) ∙ not-true _ (c .if2 .taken))
+    let same = c.before.same in
+    let wide2 = c.before.before.before.before.wide2 in
+    let at-wide = c.before.before.before.before.before.before in
+    let wide = at-wide.wide in
+    let if1 = at-wide.before.before.if1 in
+    let pre = at-wide.before.before.before.before.pre in
+    version-word _ _ pre.count-is if1.left _ (first-word _ _ _ pre _ _ wide.ensures wide2.ensures)
+    (sym same.ensures ∙ not-true _ c.if2.taken)
 
 element-copy-out-wide-3 : tie.Need-element-copy-out-wide-3
 element-copy-out-wide-3 c = search needs
@@ -73,33 +74,33 @@ wide-requires-4 c κs = search needs
 
 sub-same-2 : tie.Need-sub-same-2
 sub-same-2 c =
-    word-ends _ _ _
-    (c .before .before .before .before .before .before .before .before .before .before .before .before .before .before .pre)
-    1 _ _ (omega arith)
-    (omega (
-      arith,
-      c .before .before .before .before .before .before .before .before .before .before .before .before .if1 .left,
-    )) (c .before .before .wide3 .ensures) (c .wide4 .ensures) .0
+    let at-wide3 = c.before.before in
+    let wide3 = at-wide3.wide3 in
+    let at-if1 = at-wide3.before.before.before.before.before.before.before.before.before.before in
+    let if1 = at-if1.if1 in
+    let pre = at-if1.before.before.pre in
+    word-ends _ _ _ pre 1 _ _ (omega arith) (omega (arith, if1.left)) wide3.ensures
+    c.wide4.ensures .0
 
 part-same-start-2 : tie.Need-part-same-start-2
 part-same-start-2 c =
-    word-ends _ _ _
-    (c .before .before .before .before .before .before .before .before .before .before .before .before .before .before .pre)
-    1 _ _ (omega arith)
-    (omega (
-      arith,
-      c .before .before .before .before .before .before .before .before .before .before .before .before .if1 .left,
-    )) (c .before .before .wide3 .ensures) (c .wide4 .ensures) .0
+    let at-wide3 = c.before.before in
+    let wide3 = at-wide3.wide3 in
+    let at-if1 = at-wide3.before.before.before.before.before.before.before.before.before.before in
+    let if1 = at-if1.if1 in
+    let pre = at-if1.before.before.pre in
+    word-ends _ _ _ pre 1 _ _ (omega arith) (omega (arith, if1.left)) wide3.ensures
+    c.wide4.ensures .0
 
 part-same-end-2 : tie.Need-part-same-end-2
 part-same-end-2 c =
-    word-ends _ _ _
-    (c .before .before .before .before .before .before .before .before .before .before .before .before .before .before .pre)
-    1 _ _ (omega arith)
-    (omega (
-      arith,
-      c .before .before .before .before .before .before .before .before .before .before .before .before .if1 .left,
-    )) (c .before .before .wide3 .ensures) (c .wide4 .ensures) .1
+    let at-wide3 = c.before.before in
+    let wide3 = at-wide3.wide3 in
+    let at-if1 = at-wide3.before.before.before.before.before.before.before.before.before.before in
+    let if1 = at-if1.if1 in
+    let pre = at-if1.before.before.pre in
+    word-ends _ _ _ pre 1 _ _ (omega arith) (omega (arith, if1.left)) wide3.ensures
+    c.wide4.ensures .1
 
 slice-aggregate-same-2 : tie.Need-slice-aggregate-same-2
 slice-aggregate-same-2 c = search needs
@@ -110,60 +111,42 @@ same-requires-2 c κs = search needs
 returns-3 : tie.Need-returns-3
 unfolding stretch
 returns-3 c =
-    version-other _ _
-    (c .before .before .before .before .before .before .before .before .before .before .before .before .before .before .before .before .before .before .pre .count-is)
-    (c .before .before .before .before .before .before .before .before .before .before .before .before .before .before .before .before .if1 .left)
-    _
-    (first-word _ _ _
-    (c .before .before .before .before .before .before .before .before .before .before .before .before .before .before .before .before .before .before .pre)
-    _ _
-    (c .before .before .before .before .before .before .before .before .before .before .before .before .before .before .wide .ensures)
-    (c .before .before .before .before .before .before .before .before .before .before .before .before .wide2 .ensures))
-    (sym (c .before .before .before .before .before .before .before .before .before .same .ensures)
-    ∙ not-false _ (c .before .before .before .before .before .before .before .before .if2 .left)) _
-    (word-here _ _ _
-    (c .before .before .before .before .before .before .before .before .before .before .before .before .before .before .before .before .before .before .pre)
-    1 _ _ (omega arith)
-    (omega (
-      arith,
-      c .before .before .before .before .before .before .before .before .before .before .before .before .before .before .before .before .if1 .left,
-    )) (c .before .before .before .before .before .before .wide3 .ensures)
-    (c .before .before .before .before .wide4 .ensures)
-    ∙ c .before .before .before .before .before .before .before .before .before .before .before .before .before .before .before .before .before .before .pre .words
-    1 (omega arith)
-    (omega (
-      arith,
-      c .before .before .before .before .before .before .before .before .before .before .before .before .before .before .before .before .if1 .left,
-    ))) (sym (c .before .same2 .ensures) ∙ not-true _ (c .if3 .taken))
+    let same2 = c.before.same2 in
+    let wide4 = c.before.before.before.before.wide4 in
+    let at-wide3 = c.before.before.before.before.before.before in
+    let wide3 = at-wide3.wide3 in
+    let if2 = at-wide3.before.before.if2 in
+    let same = at-wide3.before.before.before.same in
+    let at-wide2 = at-wide3.before.before.before.before.before.before in
+    let wide2 = at-wide2.wide2 in
+    let wide = at-wide2.before.before.wide in
+    let if1 = at-wide2.before.before.before.before.if1 in
+    let pre = at-wide2.before.before.before.before.before.before.pre in
+    version-other _ _ pre.count-is if1.left _ (first-word _ _ _ pre _ _ wide.ensures wide2.ensures)
+    (sym same.ensures ∙ not-false _ if2.left) _
+    (word-here _ _ _ pre 1 _ _ (omega arith) (omega (arith, if1.left)) wide3.ensures wide4.ensures
+    ∙ pre.words 1 (omega arith) (omega (arith, if1.left)))
+    (sym same2.ensures ∙ not-true _ c.if3.taken)
 
 returns-4 : tie.Need-returns-4
 unfolding stretch
 returns-4 c =
-    version-one _ _
-    (c .before .before .before .before .before .before .before .before .before .before .before .before .before .before .before .before .before .before .pre .count-is)
-    (c .before .before .before .before .before .before .before .before .before .before .before .before .before .before .before .before .if1 .left)
-    _
-    (first-word _ _ _
-    (c .before .before .before .before .before .before .before .before .before .before .before .before .before .before .before .before .before .before .pre)
-    _ _
-    (c .before .before .before .before .before .before .before .before .before .before .before .before .before .before .wide .ensures)
-    (c .before .before .before .before .before .before .before .before .before .before .before .before .wide2 .ensures))
-    (sym (c .before .before .before .before .before .before .before .before .before .same .ensures)
-    ∙ not-false _ (c .before .before .before .before .before .before .before .before .if2 .left)) _
-    (word-here _ _ _
-    (c .before .before .before .before .before .before .before .before .before .before .before .before .before .before .before .before .before .before .pre)
-    1 _ _ (omega arith)
-    (omega (
-      arith,
-      c .before .before .before .before .before .before .before .before .before .before .before .before .before .before .before .before .if1 .left,
-    )) (c .before .before .before .before .before .before .wide3 .ensures)
-    (c .before .before .before .before .wide4 .ensures)
-    ∙ c .before .before .before .before .before .before .before .before .before .before .before .before .before .before .before .before .before .before .pre .words
-    1 (omega arith)
-    (omega (
-      arith,
-      c .before .before .before .before .before .before .before .before .before .before .before .before .before .before .before .before .if1 .left,
-    ))) (sym (c .before .same2 .ensures) ∙ not-false _ (c .if3 .left))
+    let same2 = c.before.same2 in
+    let wide4 = c.before.before.before.before.wide4 in
+    let at-wide3 = c.before.before.before.before.before.before in
+    let wide3 = at-wide3.wide3 in
+    let if2 = at-wide3.before.before.if2 in
+    let same = at-wide3.before.before.before.same in
+    let at-wide2 = at-wide3.before.before.before.before.before.before in
+    let wide2 = at-wide2.wide2 in
+    let wide = at-wide2.before.before.wide in
+    let if1 = at-wide2.before.before.before.before.if1 in
+    let pre = at-wide2.before.before.before.before.before.before.pre in
+    version-one _ _ pre.count-is if1.left _ (first-word _ _ _ pre _ _ wide.ensures wide2.ensures)
+    (sym same.ensures ∙ not-false _ if2.left) _
+    (word-here _ _ _ pre 1 _ _ (omega arith) (omega (arith, if1.left)) wide3.ensures wide4.ensures
+    ∙ pre.words 1 (omega arith) (omega (arith, if1.left)))
+    (sym same2.ensures ∙ not-false _ c.if3.left)
 
 pub version-spec : {M : Type 1} → statement M
 version-spec =
