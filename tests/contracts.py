@@ -93,12 +93,14 @@ def seen(crate, path):
 
 def cited(clauses, uses):
     """The project's definitions that the clauses cite, and where each stands."""
+    found = {}
     for use in uses:
         if named := re.match(r"Rattle·(\w+)(?:·specs)?\.specs\.([\w.-]+)\.\{(.*)\}$", use):
             words = [word.strip() for word in named[3].strip(", ").split(",")]
             words = [word for word in words if stands(word.split()[-1].strip("_"), clauses)]
             if words:
-                yield f"{', '.join(words)} of {named[1]}/specs/{named[2].replace('.', '/')}"
+                found.setdefault(f"{named[1]}/specs/{named[2].replace('.', '/')}", []).extend(words)
+    return [f"{', '.join(words)} of {where}" for where, words in found.items()]
 
 
 def stands(word, clauses):
