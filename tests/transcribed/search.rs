@@ -72,6 +72,15 @@ pub fn fronted(bytes: &[u64], out: &[u64]) -> Vec<u64> {
 //|   Settles asked learnt = SettlesSeen asked learnt {B = λ κs. resT r κs .Denot} (λ κs x. x)
 // Not computed.
 
+//|   abbrev pub SettlesWhere : In n ps → Out n ps r → {B : Lfts n → Type 0}
+//|       → ((κs : Lfts n) → resT r κs .Denot → B κs) → Type 0
+//|   SettlesWhere asked learnt see =
+//|       (κs : Lfts n) (a : Dens κs ps) → asked κs a
+//|       → (x y : resT r κs .Denot) (w v : Lasts (endedOf n ps r) κs a)
+//|       → learnt κs a x (atExit (endedOf n ps r) κs a w)
+//|       → learnt κs a y (atExit (endedOf n ps r) κs a v) → (see κs x ≡ see κs y) × (w ≡ v)
+// Not computed.
+
 //|   abbrev pub Says : Out n ps r
 //|       → ((κs : Lfts n) (a : Dens κs ps) → resT r κs .Denot → Lasts (endedOf n ps r) κs a → Type 0) → Type 0
 //|   Says learnt claim =
