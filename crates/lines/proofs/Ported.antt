@@ -8,7 +8,6 @@ use Rattle.search.specs.Least.{leastFrom}
 use Rattle.grammar.specs.Rows.{word}
 use Rattle.notes.specs.declared.Counts.{Counts}
 use Rattle.notes.specs.Notes.{named}
-use Rattle.lines.specs.declared.Port.{Port}
 use Rattle.lines.specs.Took.{Ported}
 
 module _ (t p s : List ℕ) (c : Counts) (f : List (List ℕ)) (i b n : ℕ) (v : List ℕ)

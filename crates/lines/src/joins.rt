@@ -1,7 +1,6 @@
 // The lines that feed an output or join an input; the line begins at place at.
 ghost use mathlib.Core.Path.{_≡_};
 ghost use Prim.Native.Nat.{_≤_};
-ghost use lib.ListN.{length};
 ghost use Rattle.search.specs.Least.{leastFrom};
 ghost use Rattle.grammar.specs.Rows.{rowAt};
 ghost use Rattle.grammar.specs.Lines.{feedLine, joinLine};

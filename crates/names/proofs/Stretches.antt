@@ -1,9 +1,8 @@
 -- Two stretches of bytes compared byte by byte.
 use Prim.Native.Nat.{ℕ, zero, suc, _+_, _-_, _≤_, _<_}
 use mathlib.Core.Path.{_≡_, sym, _∙_}
-use mathlib.Core.Bool.{Bool, true, false, not, cond}
-use mathlib.Core.List.{List, [], _∷_}
-use native.Mathlib.Numerals.{add-one}
+use mathlib.Core.Bool.{not}
+use mathlib.Core.List.{List}
 use native.Mathlib.Omega.{arith}
 use native.Mathlib.Nat.{min-le-left, min-comm, min-eq-left, le-of-lt}
 use native.Mathlib.Decide.{decLt}
@@ -13,7 +12,6 @@ use lib.Dec.{T, eqb}
 use borrow.Author.Tests.{lt-ltb, le-ltb, eq-eqb, ne-eqb, eqb-true}
 use Rattle.search.specs.Least.{leastFrom, Lowest, lowest-is}
 use Rattle.search.specs.Truth.{clash, is-true, not-not}
-use Rattle.grammar.specs.Rows.{front, fieldAt}
 use Rattle.names.specs.Alike.{Wordy, differs, shorter, Alike, Common}
 use Rattle.names.proofs.Walk.{alike-none, alike-more}
 
@@ -63,9 +61,6 @@ module _ (xs ys : List ℕ) where
 module _ (t : List ℕ) (a n : ℕ) where
   abbrev stretch : List ℕ
   stretch = take n (drop a t)
-
-  pub stretch-most : length stretch ≤ n
-  stretch-most = rw (length-take n (drop a t)) (min-le-left n (length (drop a t)))
 
   pub stretch-low : length stretch ≤ length t - a
   stretch-low =

@@ -1,14 +1,13 @@
 -- Slots moved one further from the top down, to make room for one.
 use Prim.Native.Nat.{ℕ, _+_, _-_, _≤_, _<_}
 use mathlib.Core.Path.{_≡_, refl, ap, sym, _∙_}
-use mathlib.Core.Bool.{cond}
 use mathlib.Core.List.{List}
 use native.Mathlib.Omega.{arith}
 use native.Mathlib.Decide.{ℕ-discrete, decLt}
 use lib.ListN.{length, getD, set, length-set}
 use lib.Seq.{getD-set-same, getD-set-other, ext-getD}
 use borrow.Author.Tests.{lt-ltb, le-ltb, eq-eqb, ne-eqb, le-leb, lt-leb}
-use Rattle.notes.specs.Listed.{listed, listed-length, listed-at}
+use Rattle.notes.specs.Listed.{listed-length, listed-at}
 use Rattle.notes.specs.Noted.{PutIn, shifted, putIn}
 
 -- from slot i up to slot e the slots have moved; room is made at slot a
