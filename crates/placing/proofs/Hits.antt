@@ -29,6 +29,10 @@ module _ (q : ℕ → Bool) (at : ℕ → ℕ) where
   unfolding hits count bit
   hits-hit n c t e = rw (add-one, is-true (q n) t, e, is-true (eqb c c) (eqb-refl c)) (omega arith)
 
+  pub hits-on : (n c : ℕ) → T (q n) → hits q at (n + 1) c ≡ hits q at n c + bit (eqb (at n) c)
+  unfolding hits count
+  hits-on n c t = rw (add-one, is-true (q n) t) (omega arith)
+
   pub hits-other : (n c : ℕ) → at n ≢ c → hits q at (n + 1) c ≡ hits q at n c
   unfolding hits count bit
   hits-other n c ne = rw (add-one, is-false (eqb (at n) c) (eq-false (at n) c ne)) (go (q n))

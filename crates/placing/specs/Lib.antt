@@ -1,4 +1,6 @@
 pub mod Less
+pub mod Blocks
+pub mod Lowered
 pub mod Waiting
 pub mod Placing
 pub mod Thread

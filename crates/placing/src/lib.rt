@@ -1,4 +1,4 @@
 // Place all calls of a table that can be placed.
-pub mod place;
-mod release;
+mod blocks;
+mod lower;
 mod waiting;
