@@ -5,5 +5,6 @@ pub mod Noted
 pub mod Parts
 pub mod Blocked
 pub mod Into
+pub mod Gives
 pub mod Told
 pub mod Passed

@@ -6,7 +6,7 @@ use mathlib.Core.List.{List}
 use Prim.Native.Nat.{ℕ, zero, suc, _+_, _-_, _*_, _/_, _%_, _^_, _≤_, _<_}
 use native.Mathlib.Omega.{arith}
 use native.Mathlib.Decide.{ℕ-discrete}
-use native.Mathlib.Nat.{one-mul, zero-div, div-eq-of-lt, div-one}
+use native.Mathlib.Nat.{one-mul, zero-div, div-eq-of-lt, sub-zero}
 use lib.Dec.{T, eqb, eqb→eq, eqb-refl, not-T, lit<}
 use lib.Bits.{bitOr}
 use lib.Pow.{shl-exact}
@@ -99,3 +99,27 @@ module _ (q : ℕ → Bool) (n from notes : ℕ) where
   within-half size next w i a b t =
       sym (half notes ((i - (from + size)) / size))
       ∙ subst (λ m. Block notes m) (next i a) (w i (omega arith) b t)
+
+-- ---- the notes of a key are two times four blocks
+low-block : (n b : ℕ) → b < 4 → Block n b → Block (n % 16) b
+low-block n zero h e = omega arith
+low-block n (suc zero) h e = omega arith
+low-block n (suc (suc zero)) h e = omega arith
+low-block n (suc (suc (suc zero))) h e = omega arith
+low-block n (suc (suc (suc (suc b)))) h e = absurd (omega arith)
+
+high-block : (n b : ℕ) → b < 4 → Block n (4 + b) → Block (n / 16 % 16) b
+high-block n zero h e = omega arith
+high-block n (suc zero) h e = omega arith
+high-block n (suc (suc zero)) h e = omega arith
+high-block n (suc (suc (suc zero))) h e = omega arith
+high-block n (suc (suc (suc (suc b)))) h e = absurd (omega arith)
+
+module _ (q : ℕ → Bool) (size n note : ℕ) (few : (i : ℕ) → i < n → i / size < 4) where
+  pub within-low : ((i : ℕ) → i < n → T (q i) → Block note (i / size))
+      → Within q size n (note % 16) 0
+  within-low h i a l t = rw (sub-zero i) (low-block note (i / size) (few i l) (h i l t))
+
+  pub within-high : ((i : ℕ) → i < n → T (q i) → Block note (4 + i / size))
+      → Within q size n (note / 16 % 16) 0
+  within-high h i a l t = rw (sub-zero i) (high-block note (i / size) (few i l) (h i l t))

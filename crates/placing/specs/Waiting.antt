@@ -3,10 +3,11 @@ use mathlib.Core.Path.{_≡_}
 use mathlib.Core.Bool.{Bool, not, _&&_, cond}
 use mathlib.Core.List.{List}
 use Prim.Native.Nat.{ℕ, _+_}
-use lib.Dec.{eqb}
+use lib.Dec.{T, eqb, ltb}
 use lib.ListN.{length, getD}
 use Rattle.search.specs.Count.{bit}
-use Rattle.table.specs.Shape.{Shape}
+use Rattle.bits.specs.Bits.{has, Words}
+use Rattle.table.specs.Shape.{Shape, total}
 use Rattle.calls.specs.Number.{getNo, setNo}
 use Rattle.placing.specs.Less.{hits}
 
@@ -44,7 +45,9 @@ ownStep s x c = bit (eqb (s .kind x) 1 && eqb (s .inputOwner x) c)
 unfoldable pub waits : Shape → (ℕ → Bool) → ℕ → ℕ
 waits s done c = cond (done c) 255 (into s (λ a. not (done a)) c)
 
--- the counts of every call, and a 0 behind the last
-pub record Waiting (s : Shape) (done : ℕ → Bool) (counts : List ℕ) : Type 0 where
-  pub long : length counts ≡ 225
-  pub each : (c : ℕ) → getD counts c 0 ≡ waits s done c
+-- the counts of the calls that are not placed, and the ready ones of the N
+pub record Waiting (s : Shape) (done : ℕ → Bool) (counts ready : List ℕ) : Type 0 where
+  pub long : length counts ≡ 224
+  pub left : (c : ℕ) → T (not (done c)) → getD counts c 0 ≡ into s (λ a. not (done a)) c
+  pub words : Words ready
+  pub bits : (c : ℕ) → has ready c ≡ (ltb c (total s) && eqb (waits s done c) 0)
