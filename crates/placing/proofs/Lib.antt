@@ -6,5 +6,8 @@ pub mod Parts
 pub mod Blocked
 pub mod Into
 pub mod Gives
+pub mod Threads
+pub mod Stage
+pub mod Filled
 pub mod Told
 pub mod Passed
