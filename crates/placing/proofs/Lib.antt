@@ -9,5 +9,9 @@ pub mod Gives
 pub mod Threads
 pub mod Stage
 pub mod Filled
+pub mod Found
+pub mod Marked
+pub mod Zeros
 pub mod Told
 pub mod Passed
+pub mod Settled

@@ -10,7 +10,7 @@ use native.Mathlib.Decide.{decLt}
 use lib.Dec.{T, eqb, eqb→eq, eqb-refl, not-T}
 use lib.ListN.{length, getD, set, take, drop, length-append, take-append-drop}
 use lib.ListN.{length-set}
-use lib.Seq.{take-suc, take-length, take-set-le, drop-cons, drop-set-lt, getD-set-same}
+use lib.Seq.{take-suc, take-length, take-set-le, drop-cons, drop-set-lt, getD-set-same, ext-getD}
 use Rattle.search.specs.Truth.{T-or, or-left, or-right, clash, is-true, is-false, eq-false}
 use Rattle.search.specs.Sets.{none, add, add-self, add-more, add-not}
 use Rattle.search.specs.Front.{fronted}
@@ -22,7 +22,7 @@ use Rattle.orders.specs.Sort.{nextCall, sort, placed}
 use Rattle.orders.specs.Sorted.{next-is, sort-step, sort-stop, sort-none}
 use Rattle.orders.specs.Walk.{among}
 use Rattle.orders.specs.Turned.{among-at, at-among}
-use Rattle.orders.specs.Remains.{placed-calls}
+use Rattle.orders.specs.Remains.{placed-calls, placed-le}
 use Rattle.placing.specs.Placing.{callCount, placedOf}
 use Rattle.placing.specs.Thread.{lastOf, prior, stands, Standing, chain}
 
@@ -148,12 +148,25 @@ module _ (t bytes : List ℕ) (s : Standing t bytes) where
       (λ c h. s .each c ∙ rw (is-true (among l c) h)) (length l) (omega arith)
       ∙ e
 
+  pub stood : (n last : ℕ) → n ≡ length (placedOf t) → last ≡ lastOf 255 (placedOf t)
+      → chain bytes n last ≡ placedOf t
+  stood n last e f = rw (e, f) standing-chain
+
+-- the bytes of a table where no more can be placed are one
+pub standing-one : (t one two : List ℕ) → Standing t one → Standing t two → one ≡ two
+standing-one t one two a b =
+    ext-getD 0 one two (a .long ∙ sym (b .long)) (λ i h. a .each i ∙ sym (b .each i))
+
 -- what is placed are calls of the table
 pub placed-known : (t : List ℕ) (c : ℕ) → T (among (placedOf t) c) → c < callCount t
 unfolding placedOf
 placed-known t c m =
     let (i, h, e) = at-among c (placedOf t) m in
     rw (← e) (placed-calls (callCount t) (precedes (shapeOf t)) i h)
+
+pub placed-most : (t : List ℕ) → length (placedOf t) ≤ callCount t
+unfolding placedOf
+placed-most t = placed-le (callCount t) (precedes (shapeOf t))
 
 -- ---- written from its end
 module _ (bytes : List ℕ) (count last : ℕ) (out₀ : List ℕ) where

@@ -13,6 +13,7 @@ ghost use Rattle.placing.specs.Blocks.{Owned, Joined};
 ghost use Rattle.placing.specs.Waiting.{into, Waiting};
 ghost use Rattle.placing.specs.Placing.{callCount, placedOf, placing};
 ghost use Rattle.placing.specs.Thread.{lastOf, Standing};
+use crate::Placed;
 use crate::blocks::note;
 use crate::blocks::note_fed;
 use crate::release::release;
@@ -32,12 +33,6 @@ use table::parts::input_sources;
 use table::parts::output_count;
 use table::parts::output_owners;
 use table::parts::unit_count;
-
-// How many calls were placed, and the last of them; 255 where none was.
-pub struct Placed {
-    pub count: usize,
-    pub last: u8,
-}
 
 // How many direct predecessors each call has, counted rule by rule.
 fn fill(table: &[u8], waiting: &mut [u8; 224])

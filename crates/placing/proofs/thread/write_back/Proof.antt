@@ -1,49 +1,77 @@
+-- Each turn writes one call before those written (`backing-on`).
+use borrow.Author.Needs.{needs}
 use Rattle.placing.proofs.thread.write_back.Statement.{statement}
 use Rattle.placing.proofs.thread.write_back.Tie as tie
-use Rattle.placing.proofs.thread.write_back.Reads as reads
-use Rattle.placing.proofs.thread.write_back.Lts as lts
+use native.Mathlib.Omega.{arith}
+use lib.ListN.{length}
+use Rattle.placing.proofs.Threads.{Backing, backing-starts, backing-call, backing-on}
+use Rattle.placing.proofs.Threads.{backing-ends}
 
 abbrev Inv-loop : tie.InvT-loop
-Inv-loop bytes last count out₀ n₀ c₀ out n c = ?
+Inv-loop bytes last count out₀ n₀ c₀ out n c = Backing bytes count last out₀ n c out
 
 abbrev μ-loop : tie.MeasureT-loop
-μ-loop bytes last count out₀ n₀ c₀ out n c = ?
+μ-loop bytes last count out₀ n₀ c₀ out n c = n
 
--- src/thread.rt:19:5
 loop-holds : tie.Need-loop-holds Inv-loop μ-loop
-loop-holds c = ?
+loop-holds c =
+    let args = c.args in
+    backing-starts args.bytes.now args.count args.last args.out.now c.pre.1
 
--- src/thread.rt:20:9
 sub-n : tie.Need-sub-n Inv-loop μ-loop
-sub-n c = ?
+sub-n c = search needs
 
--- src/thread.rt:21:9
 slice-write-out : tie.Need-slice-write-out Inv-loop μ-loop
-slice-write-out c = ?
+slice-write-out c =
+    let loop = c.before.loop in
+    let pre = c.before.before.pre in
+    omega (arith, loop.inv.long, loop.inv.few, pre.0, c.loop-test.taken)
 
--- src/thread.rt:22:19
 cast-c : tie.Need-cast-c Inv-loop μ-loop
-cast-c c = ?
+cast-c c =
+    let loop = c.before.loop in
+    let start = c.before.before in
+    let args = start.args in
+    record {
+      fits =
+          omega (
+            arith,
+            backing-call args.bytes.now args.count args.last args.out.now loop.n loop.c loop.out
+                c.loop-test.taken loop.inv start.pre.0,
+          );
+    }
 
--- src/thread.rt:22:13
 element-copy-out-c : tie.Need-element-copy-out-c Inv-loop μ-loop
-element-copy-out-c c = ?
+element-copy-out-c c =
+    let loop = c.before.loop in
+    let start = c.before.before in
+    let args = start.args in
+    backing-call args.bytes.now args.count args.last args.out.now loop.n loop.c loop.out
+    c.loop-test.taken loop.inv start.pre.0
 
--- src/thread.rt:19:5
 loop-less : tie.Need-loop-less Inv-loop μ-loop
-loop-less c = ?
+loop-less c = search needs
 
--- src/thread.rt:19:5
 loop-again : tie.Need-loop-again Inv-loop μ-loop
-loop-again c = ?
+loop-again c =
+    let loop-test = c.before.loop-test in
+    let loop = c.before.before.loop in
+    let start = c.before.before.before in
+    let args = start.args in
+    backing-on args.bytes.now args.count args.last args.out.now loop.n loop.c loop.out
+    loop-test.taken loop.inv start.pre.0
 
--- src/thread.rt:11:1
 same-length : tie.Need-same-length Inv-loop μ-loop
-same-length c = ?
+same-length c =
+    let loop = c.before.loop in
+    loop.inv.long
 
--- src/thread.rt:11:1
 returns : tie.Need-returns Inv-loop μ-loop
-returns c = ?
+returns c =
+    let loop = c.before.loop in
+    let args = c.before.before.args in
+    backing-ends args.bytes.now args.count args.last args.out.now loop.n loop.c loop.out
+    (λ h. absurd (omega (arith, h, c.loop-test.left))) loop.inv
 
 pub write-back-spec : {M : Type 1} → statement M
 write-back-spec =

@@ -1,0 +1,64 @@
+-- Counts, ready calls and notes are as the loop asks (`waiting-starts`).
+use borrow.Author.Needs.{needs}
+use Rattle.placing.proofs.place.place.Statement.{statement}
+use Rattle.placing.proofs.place.place.Tie as tie
+use native.Mathlib.Omega.{arith}
+use mathlib.Core.Path.{subst, sym, _∙_}
+use lib.ListN.{length-replicate}
+use Rattle.table.specs.Packed.{shapeOf}
+use Rattle.table.specs.Checked.{few-calls}
+use Rattle.bits.specs.Laws.{empty-words, empty-has}
+use Rattle.placing.proofs.Stage.{waiting-starts}
+
+fill-requires : tie.Need-fill-requires
+fill-requires c κs = search needs
+
+find-ready-requires : tie.Need-find-ready-requires
+find-ready-requires c κs =
+    let start = c.before.before.before.before.before in (
+      omega (arith, start.pre.1.0, few-calls start.args.table.now start.pre.0),
+      (empty-words, empty-has),
+    )
+
+note-owners-requires : tie.Need-note-owners-requires
+note-owners-requires c κs = search needs
+
+note-joins-requires : tie.Need-note-joins-requires
+note-joins-requires c κs = search needs
+
+place-ready-requires : tie.Need-place-ready-requires
+place-ready-requires c κs =
+    let note-joins = c.before.before.before.before.note-joins in
+    let note-owners = c.before.before.before.before.before.before.note-owners in
+    let find-ready = c.before.before.before.before.before.before.before.before.find-ready in
+    let fill = c.before.before.before.before.before.before.before.before.before.before.before.fill in
+    let start = c.before.before.before.before.before.before.before.before.before.before.before.before.before.before in
+    let args = start.args in
+    let pre = start.pre in (
+      pre.0,
+      (
+        pre.1.0,
+        (
+          note-owners.ensures,
+          (
+            note-joins.ensures,
+            waiting-starts (shapeOf args.table.now) _ _ fill.ensures.0 fill.ensures.1
+                find-ready.ensures.0 (rw (← pre.1.0) find-ready.ensures.1),
+          ),
+        ),
+      ),
+    )
+
+returns : tie.Need-returns
+returns c = c.place-ready.ensures
+
+pub place-spec : {M : Type 1} → statement M
+place-spec =
+    tie.close
+    (tie.spec
+    fill-requires
+    find-ready-requires
+    note-owners-requires
+    note-joins-requires
+    place-ready-requires
+    returns)
