@@ -112,7 +112,8 @@ module _ (t : List ℕ) (ok : Sound t) (done : ℕ → Bool) where
         (λ u. not-T (keepsStep (shapeOf t) u done (x - 1))
         (λ k.
         n (kind-found (shapeOf t) 1 (x - 1) u
-        (T-and (hasKind (shapeOf t) 1 (x - 1) u) (not (done (setNo (shapeOf t) (x - 1)))) k .0) .0)))
+        (T-and (hasKind (shapeOf t) 1 (x - 1) u) (not (done (setNo (shapeOf t) (x - 1)))) k .0)
+        .0)))
 
     pub steps-done : T (done (setNo (shapeOf t) (x - 1))) → Steps t done lows (x - 1)
     unfolding keepsStep
@@ -192,7 +193,8 @@ module _ (t : List ℕ) (ok : Sound t) (done : ℕ → Bool) where
     gets-higher h = record {
       long = g .long;
       within = omega arith;
-      each = λ y l. best-stays (shapeOf t) y done k (getD lows y 0) (λ o n. rw (← o) h) (g .each y l);
+      each = λ y l. best-stays (shapeOf t) y done k (getD lows y 0) (λ o n. rw (← o) h)
+          (g .each y l);
     }
 
     pub gets-done : T (done (setNo (shapeOf t) (shapeOf t .feedInput k))) → Gets t done lows (k + 1)

@@ -37,7 +37,8 @@ returns c =
 
 element-copy-out-set-of : tie.Need-element-copy-out-set-of
 element-copy-out-set-of c =
-    let pre = c.before.before.before.before.before.pre in omega (arith, pre.1.0, pre.0.counted.outputs-most)
+    let pre = c.before.before.before.before.before.pre in
+    omega (arith, pre.1.0, pre.0.counted.outputs-most)
 
 set-of-requires : tie.Need-set-of-requires
 set-of-requires c κs = search needs

@@ -77,10 +77,12 @@ returns c =
     told-step (shapeOf args.table.now) args.call pre.1.0 kind.given.0.0
     (sym call-of.ensures ∙ kind.given.1) in
     c.set-of.ensures
-    ∙ step-lowest (shapeOf args.table.now) pre.0.wired (has args.marks.now) kind.given.0.0 _ (told .0)
+    ∙ step-lowest (shapeOf args.table.now) pre.0.wired (has args.marks.now) kind.given.0.0 _
+    (told .0)
     (pre.1.1.0.each kind.given.0.0 (told .0))
     ∙ ap
-    (lowestBefore (callCount args.table.now) (precedes (shapeOf args.table.now)) (has args.marks.now))
+    (lowestBefore (callCount args.table.now) (precedes (shapeOf args.table.now))
+    (has args.marks.now))
     (told .1)
 
 returns-2 : tie.Need-returns-2
@@ -92,7 +94,8 @@ returns-2 c =
     let pre = start.pre in
     c.before-get.ensures
     ∙ ap
-    (lowestBefore (callCount args.table.now) (precedes (shapeOf args.table.now)) (has args.marks.now))
+    (lowestBefore (callCount args.table.now) (precedes (shapeOf args.table.now))
+    (has args.marks.now))
     (told-get (shapeOf args.table.now) args.call pre.1.0 kind2.given.0.0
     (sym call-of.ensures ∙ kind2.given.1) .1)
 
@@ -105,7 +108,8 @@ returns-3 c =
     let pre = start.pre in
     c.before-set.ensures
     ∙ ap
-    (lowestBefore (callCount args.table.now) (precedes (shapeOf args.table.now)) (has args.marks.now))
+    (lowestBefore (callCount args.table.now) (precedes (shapeOf args.table.now))
+    (has args.marks.now))
     (told-set (shapeOf args.table.now) args.call pre.1.0 kind3.given.0.0
     (sym call-of.ensures ∙ kind3.given.1) .1)
 
@@ -116,7 +120,8 @@ returns-4 c =
     let args = start.args in
     let pre = start.pre in
     absurd
-    (told-none (shapeOf args.table.now) args.call pre.1.0 (sym call-of.ensures ∙ c.enum-told.given.1))
+    (told-none (shapeOf args.table.now) args.call pre.1.0
+    (sym call-of.ensures ∙ c.enum-told.given.1))
 
 pub lowest-before-spec : {M : Type 1} → statement M
 lowest-before-spec =

@@ -10,27 +10,23 @@ use lib.Dec.{T}
 use lib.ListN.{length, getD, set}
 use borrow.Author.Tests.{not-true, not-false}
 use Rattle.search.specs.Truth.{says, denies}
-use Rattle.table.specs.Packed.{pairInput, pairOutput}
+use Rattle.table.specs.Packed.{feeds, pairInput, pairOutput}
 use Rattle.table.specs.Layout.{long-pairs}
 use Rattle.bits.specs.Bits.{has}
 use Rattle.sorter.proofs.Passes.{Filled, filled-starts, filled-on, Gets, gets-start}
 use Rattle.sorter.proofs.Passes.{gets-output, gets-higher, gets-done, gets-lower, gets-end}
 
 abbrev Inv-loop : tie.InvT-loop
-Inv-loop table marks lows₀ pairs count sets none y₀ lows y =
-    Filled 96 none lows y
+Inv-loop table marks lows₀ pairs count sets none y₀ lows y = Filled 96 none lows y
 
 abbrev μ-loop : tie.MeasureT-loop
-μ-loop table marks lows₀ pairs count sets none y₀ lows y =
-    96 - y
+μ-loop table marks lows₀ pairs count sets none y₀ lows y = 96 - y
 
 abbrev Inv-loop2 : tie.InvT-loop2
-Inv-loop2 table marks lows₀ pairs count sets none y k₀ lows k =
-    Gets table (has marks) lows k
+Inv-loop2 table marks lows₀ pairs count sets none y k₀ lows k = Gets table (has marks) lows k
 
 abbrev μ-loop2 : tie.MeasureT-loop2
-μ-loop2 table marks lows₀ pairs count sets none y k₀ lows k =
-    count - k
+μ-loop2 table marks lows₀ pairs count sets none y k₀ lows k = count - k
 
 feed-pairs-requires : tie.Need-feed-pairs-requires Inv-loop μ-loop Inv-loop2 μ-loop2
 feed-pairs-requires c κs = search needs
@@ -56,7 +52,8 @@ cast-none c =
 
 loop-holds : tie.Need-loop-holds Inv-loop μ-loop Inv-loop2 μ-loop2
 loop-holds c =
-    let start = c.before.before.before.before.before.before in filled-starts 96 _ start.args.lows.now start.pre.1
+    let start = c.before.before.before.before.before.before in
+    filled-starts 96 _ start.args.lows.now start.pre.1
 
 element-write-lows : tie.Need-element-write-lows Inv-loop μ-loop Inv-loop2 μ-loop2
 element-write-lows c = search needs
@@ -77,61 +74,87 @@ loop2-holds c =
     let input-count = c.before.before.input-count in
     let start = c.before.before.before.before.before.before.before.before in
     let args = start.args in
-    gets-start args.table.now start.pre.0 (has args.marks.now) loop.lows loop.y _ input-count.ensures.0
+    gets-start args.table.now start.pre.0 (has args.marks.now) loop.lows loop.y _
+    input-count.ensures.0
     c.loop-test.left loop.inv
 
 mul-input : tie.Need-mul-input Inv-loop μ-loop Inv-loop2 μ-loop2
 mul-input c =
-    let feed-count = c.before.before.before.before.before.before.before.feed-count in
+    let at-feed-count = c.before.before.before.before.before.before.before in
+    let feed-count = at-feed-count.feed-count in
     let loop2-test = c.loop2-test in
     record { fits = omega (arith, loop2-test.taken, feed-count.ensures.1) }
 
 shared-slice-read-input : tie.Need-shared-slice-read-input Inv-loop μ-loop Inv-loop2 μ-loop2
 shared-slice-read-input c =
     let loop2-test = c.before.loop2-test in
-    let feed-count = c.before.before.before.before.before.before.before.before.feed-count in
-    let feed-pairs = c.before.before.before.before.before.before.before.before.before.feed-pairs in
-    let start = c.before.before.before.before.before.before.before.before.before.before.before in
+    let at-feed-count = c.before.before.before.before.before.before.before.before in
+    let feed-count = at-feed-count.feed-count in
+    let feed-pairs = at-feed-count.before.feed-pairs in
+    let start = at-feed-count.before.before.before in
     let args = start.args in
     let pre = start.pre in
-    omega (arith, ap length feed-pairs.ensures ∙ long-pairs args.table.now pre.0.long, feed-count.ensures.0, loop2-test.taken)
+    omega (
+      arith,
+      ap length feed-pairs.ensures ∙ long-pairs args.table.now pre.0.long,
+      feed-count.ensures.0,
+      loop2-test.taken,
+    )
 
 mul-output : tie.Need-mul-output Inv-loop μ-loop Inv-loop2 μ-loop2
 mul-output c =
-    let feed-count = c.before.before.before.before.before.before.before.before.feed-count in
+    let at-feed-count = c.before.before.before.before.before.before.before.before in
+    let feed-count = at-feed-count.feed-count in
     let loop2-test = c.before.loop2-test in
     record { fits = omega (arith, loop2-test.taken, feed-count.ensures.1) }
 
 add-output : tie.Need-add-output Inv-loop μ-loop Inv-loop2 μ-loop2
 add-output c =
-    let feed-count = c.before.before.before.before.before.before.before.before.feed-count in
+    let at-feed-count = c.before.before.before.before.before.before.before.before in
+    let feed-count = at-feed-count.feed-count in
     let loop2-test = c.before.loop2-test in
     record { fits = omega (arith, loop2-test.taken, feed-count.ensures.1) }
 
 shared-slice-read-output : tie.Need-shared-slice-read-output Inv-loop μ-loop Inv-loop2 μ-loop2
 shared-slice-read-output c =
     let loop2-test = c.before.before.loop2-test in
-    let feed-count = c.before.before.before.before.before.before.before.before.before.feed-count in
-    let feed-pairs = c.before.before.before.before.before.before.before.before.before.before.feed-pairs in
-    let start = c.before.before.before.before.before.before.before.before.before.before.before.before in
+    let at-feed-count = c.before.before.before.before.before.before.before.before.before in
+    let feed-count = at-feed-count.feed-count in
+    let feed-pairs = at-feed-count.before.feed-pairs in
+    let start = at-feed-count.before.before.before in
     let args = start.args in
     let pre = start.pre in
-    omega (arith, ap length feed-pairs.ensures ∙ long-pairs args.table.now pre.0.long, feed-count.ensures.0, loop2-test.taken)
+    omega (
+      arith,
+      ap length feed-pairs.ensures ∙ long-pairs args.table.now pre.0.long,
+      feed-count.ensures.0,
+      loop2-test.taken,
+    )
 
 cast-output : tie.Need-cast-output Inv-loop μ-loop Inv-loop2 μ-loop2
 cast-output c =
     let loop2-test = c.before.before.loop2-test in
     let loop2 = c.before.before.before.loop2 in
-    let feed-count = c.before.before.before.before.before.before.before.before.before.feed-count in
-    let feed-pairs = c.before.before.before.before.before.before.before.before.before.before.feed-pairs in
-    let start = c.before.before.before.before.before.before.before.before.before.before.before.before in
+    let at-feed-count = c.before.before.before.before.before.before.before.before.before in
+    let feed-count = at-feed-count.feed-count in
+    let feed-pairs = at-feed-count.before.feed-pairs in
+    let start = at-feed-count.before.before.before in
     let args = start.args in
     let pre = start.pre in
-    record { fits = omega (arith, ap (λ l. pairOutput l loop2.k) feed-pairs.ensures, gets-output args.table.now pre.0 (has args.marks.now) loop2.lows loop2.k (omega (arith, loop2-test.taken, feed-count.ensures.0)) loop2.inv) }
+    let more : loop2.k < feeds args.table.now =
+    omega (arith, loop2-test.taken, feed-count.ensures.0) in
+    record {
+      fits = omega (
+        arith,
+        ap (λ l. pairOutput l loop2.k) feed-pairs.ensures,
+        gets-output args.table.now pre.0 (has args.marks.now) loop2.lows loop2.k more loop2.inv,
+      );
+    }
 
 add-k : tie.Need-add-k Inv-loop μ-loop Inv-loop2 μ-loop2
 add-k c =
-    let feed-count = c.before.before.before.before.before.before.before.before.before.feed-count in
+    let at-feed-count = c.before.before.before.before.before.before.before.before.before in
+    let feed-count = at-feed-count.feed-count in
     let loop2-test = c.before.before.loop2-test in
     record { fits = omega (arith, loop2-test.taken, feed-count.ensures.1) }
 
@@ -139,32 +162,64 @@ element-copy-out-if1 : tie.Need-element-copy-out-if1 Inv-loop μ-loop Inv-loop2 
 element-copy-out-if1 c =
     let loop2-test = c.before.before.loop2-test in
     let loop2 = c.before.before.before.loop2 in
-    let feed-count = c.before.before.before.before.before.before.before.before.before.feed-count in
-    let feed-pairs = c.before.before.before.before.before.before.before.before.before.before.feed-pairs in
-    let start = c.before.before.before.before.before.before.before.before.before.before.before.before in
+    let at-feed-count = c.before.before.before.before.before.before.before.before.before in
+    let feed-count = at-feed-count.feed-count in
+    let feed-pairs = at-feed-count.before.feed-pairs in
+    let start = at-feed-count.before.before.before in
     let args = start.args in
     let pre = start.pre in
-    omega (arith, ap (λ l. pairOutput l loop2.k) feed-pairs.ensures, gets-output args.table.now pre.0 (has args.marks.now) loop2.lows loop2.k (omega (arith, loop2-test.taken, feed-count.ensures.0)) loop2.inv)
+    let more : loop2.k < feeds args.table.now =
+    omega (arith, loop2-test.taken, feed-count.ensures.0) in
+    omega (
+      arith,
+      ap (λ l. pairOutput l loop2.k) feed-pairs.ensures,
+      gets-output args.table.now pre.0 (has args.marks.now) loop2.lows loop2.k more loop2.inv,
+    )
 
 cast-has : tie.Need-cast-has Inv-loop μ-loop Inv-loop2 μ-loop2
 cast-has c =
     let loop2-test = c.before.before.before.before.loop2-test in
     let loop2 = c.before.before.before.before.before.loop2 in
-    let feed-count = c.before.before.before.before.before.before.before.before.before.before.before.feed-count in
-    let feed-pairs = c.before.before.before.before.before.before.before.before.before.before.before.before.feed-pairs in
-    let pre = c.before.before.before.before.before.before.before.before.before.before.before.before.before.before.pre in
-    record { fits = omega (arith, ap (λ l. pairInput l loop2.k) feed-pairs.ensures, pre.0.wired.feed-input loop2.k (omega (arith, loop2-test.taken, feed-count.ensures.0)), pre.0.counted.inputs-most) }
+    let at-feed-count =
+    c.before.before.before.before.before.before.before.before.before.before.before in
+    let feed-count = at-feed-count.feed-count in
+    let feed-pairs = at-feed-count.before.feed-pairs in
+    let start = at-feed-count.before.before.before in
+    let pre = start.pre in
+    let more : loop2.k < feeds start.args.table.now =
+    omega (arith, loop2-test.taken, feed-count.ensures.0) in
+    record {
+      fits = omega (
+        arith,
+        ap (λ l. pairInput l loop2.k) feed-pairs.ensures,
+        pre.0.wired.feed-input loop2.k more,
+        pre.0.counted.inputs-most,
+      );
+    }
 
 add-has : tie.Need-add-has Inv-loop μ-loop Inv-loop2 μ-loop2
 add-has c =
     let loop2-test = c.before.before.before.before.loop2-test in
     let loop2 = c.before.before.before.before.before.loop2 in
-    let output-count = c.before.before.before.before.before.before.before.before.before.output-count in
-    let unit-count = c.before.before.before.before.before.before.before.before.before.before.unit-count in
-    let feed-count = c.before.before.before.before.before.before.before.before.before.before.before.feed-count in
-    let feed-pairs = c.before.before.before.before.before.before.before.before.before.before.before.before.feed-pairs in
-    let pre = c.before.before.before.before.before.before.before.before.before.before.before.before.before.before.pre in
-    record { fits = omega (arith, ap (λ l. pairInput l loop2.k) feed-pairs.ensures, pre.0.wired.feed-input loop2.k (omega (arith, loop2-test.taken, feed-count.ensures.0)), pre.0.counted.inputs-most, output-count.ensures.1, unit-count.ensures.1) }
+    let at-output-count = c.before.before.before.before.before.before.before.before.before in
+    let output-count = at-output-count.output-count in
+    let unit-count = at-output-count.before.unit-count in
+    let feed-count = at-output-count.before.before.feed-count in
+    let feed-pairs = at-output-count.before.before.before.feed-pairs in
+    let start = at-output-count.before.before.before.before.before in
+    let pre = start.pre in
+    let more : loop2.k < feeds start.args.table.now =
+    omega (arith, loop2-test.taken, feed-count.ensures.0) in
+    record {
+      fits = omega (
+        arith,
+        ap (λ l. pairInput l loop2.k) feed-pairs.ensures,
+        pre.0.wired.feed-input loop2.k more,
+        pre.0.counted.inputs-most,
+        output-count.ensures.1,
+        unit-count.ensures.1,
+      );
+    }
 
 has-requires : tie.Need-has-requires Inv-loop μ-loop Inv-loop2 μ-loop2
 has-requires c κs = search needs
@@ -172,17 +227,26 @@ has-requires c κs = search needs
 element-write-lows-2 : tie.Need-element-write-lows-2 Inv-loop μ-loop Inv-loop2 μ-loop2
 element-write-lows-2 c =
     let loop2-test = c.before.before.before.before.before.before.loop2-test in
-    let loop2 = c.before.before.before.before.before.before.before.loop2 in
-    let feed-count = c.before.before.before.before.before.before.before.before.before.before.before.before.before.feed-count in
-    let feed-pairs = c.before.before.before.before.before.before.before.before.before.before.before.before.before.before.feed-pairs in
-    let start = c.before.before.before.before.before.before.before.before.before.before.before.before.before.before.before.before in
+    let at-loop2 = c.before.before.before.before.before.before.before in
+    let loop2 = at-loop2.loop2 in
+    let feed-count = at-loop2.before.before.before.before.before.before.feed-count in
+    let at-feed-pairs = at-loop2.before.before.before.before.before.before.before in
+    let feed-pairs = at-feed-pairs.feed-pairs in
+    let start = at-feed-pairs.before.before in
     let args = start.args in
     let pre = start.pre in
-    omega (arith, ap (λ l. pairOutput l loop2.k) feed-pairs.ensures, gets-output args.table.now pre.0 (has args.marks.now) loop2.lows loop2.k (omega (arith, loop2-test.taken, feed-count.ensures.0)) loop2.inv)
+    let more : loop2.k < feeds args.table.now =
+    omega (arith, loop2-test.taken, feed-count.ensures.0) in
+    omega (
+      arith,
+      ap (λ l. pairOutput l loop2.k) feed-pairs.ensures,
+      gets-output args.table.now pre.0 (has args.marks.now) loop2.lows loop2.k more loop2.inv,
+    )
 
 loop2-less : tie.Need-loop2-less Inv-loop μ-loop Inv-loop2 μ-loop2
 loop2-less c =
-    let loop2-test = c.before.before.before.before.before.before.loop2-test in omega (arith, loop2-test.taken)
+    let loop2-test = c.before.before.before.before.before.before.loop2-test in
+    omega (arith, loop2-test.taken)
 
 loop2-again : tie.Need-loop2-again Inv-loop μ-loop Inv-loop2 μ-loop2
 loop2-again c =
@@ -190,40 +254,56 @@ loop2-again c =
     let has′ = c.before.has in
     let if1 = c.before.before.if1 in
     let loop2-test = c.before.before.before.before.before.before.loop2-test in
-    let loop2 = c.before.before.before.before.before.before.before.loop2 in
-    let output-count = c.before.before.before.before.before.before.before.before.before.before.before.output-count in
-    let unit-count = c.before.before.before.before.before.before.before.before.before.before.before.before.unit-count in
-    let feed-count = c.before.before.before.before.before.before.before.before.before.before.before.before.before.feed-count in
-    let feed-pairs = c.before.before.before.before.before.before.before.before.before.before.before.before.before.before.feed-pairs in
-    let start = c.before.before.before.before.before.before.before.before.before.before.before.before.before.before.before.before in
+    let at-loop2 = c.before.before.before.before.before.before.before in
+    let loop2 = at-loop2.loop2 in
+    let output-count = at-loop2.before.before.before.before.output-count in
+    let unit-count = at-loop2.before.before.before.before.before.unit-count in
+    let feed-count = at-loop2.before.before.before.before.before.before.feed-count in
+    let at-feed-pairs = at-loop2.before.before.before.before.before.before.before in
+    let feed-pairs = at-feed-pairs.feed-pairs in
+    let start = at-feed-pairs.before.before in
     let args = start.args in
     let pre = start.pre in
+    let more : loop2.k < feeds args.table.now =
+    omega (arith, loop2-test.taken, feed-count.ensures.0) in
     let e = feed-pairs.ensures in
-    subst (λ l. Gets args.table.now (has args.marks.now) (set loop2.lows (pairOutput l loop2.k) (pairInput l loop2.k)) (loop2.k + 1)) (sym e)
-    (gets-lower args.table.now pre.0 (has args.marks.now) loop2.lows loop2.k (omega (arith, loop2-test.taken, feed-count.ensures.0)) loop2.inv
+    let sets =
+    ap₂ _+_ (ap₂ _+_ unit-count.ensures.0 output-count.ensures.0) (ap (λ l. pairInput l loop2.k) e)
+    in
+    subst (λ l. Gets args.table.now (has args.marks.now)
+    (set loop2.lows (pairOutput l loop2.k) (pairInput l loop2.k)) (loop2.k + 1)) (sym e)
+    (gets-lower args.table.now pre.0 (has args.marks.now) loop2.lows loop2.k more loop2.inv
     (subst (λ l. pairInput l loop2.k < getD loop2.lows (pairOutput l loop2.k) 0) e if1.taken)
-    (subst (λ n. T (not (has args.marks.now n))) (ap₂ _+_ (ap₂ _+_ unit-count.ensures.0 output-count.ensures.0) (ap (λ l. pairInput l loop2.k) e))
+    (subst (λ n. T (not (has args.marks.now n))) sets
     (denies has′.ensures (not-true _ if2.taken))))
 
 loop2-less-2 : tie.Need-loop2-less-2 Inv-loop μ-loop Inv-loop2 μ-loop2
 loop2-less-2 c =
-    let loop2-test = c.before.before.before.before.before.before.loop2-test in omega (arith, loop2-test.taken)
+    let loop2-test = c.before.before.before.before.before.before.loop2-test in
+    omega (arith, loop2-test.taken)
 
 loop2-again-2 : tie.Need-loop2-again-2 Inv-loop μ-loop Inv-loop2 μ-loop2
 loop2-again-2 c =
     let has′ = c.before.has in
     let loop2-test = c.before.before.before.before.before.before.loop2-test in
-    let loop2 = c.before.before.before.before.before.before.before.loop2 in
-    let output-count = c.before.before.before.before.before.before.before.before.before.before.before.output-count in
-    let unit-count = c.before.before.before.before.before.before.before.before.before.before.before.before.unit-count in
-    let feed-count = c.before.before.before.before.before.before.before.before.before.before.before.before.before.feed-count in
-    let feed-pairs = c.before.before.before.before.before.before.before.before.before.before.before.before.before.before.feed-pairs in
-    let start = c.before.before.before.before.before.before.before.before.before.before.before.before.before.before.before.before in
+    let at-loop2 = c.before.before.before.before.before.before.before in
+    let loop2 = at-loop2.loop2 in
+    let output-count = at-loop2.before.before.before.before.output-count in
+    let unit-count = at-loop2.before.before.before.before.before.unit-count in
+    let feed-count = at-loop2.before.before.before.before.before.before.feed-count in
+    let at-feed-pairs = at-loop2.before.before.before.before.before.before.before in
+    let feed-pairs = at-feed-pairs.feed-pairs in
+    let start = at-feed-pairs.before.before in
     let args = start.args in
     let pre = start.pre in
+    let more : loop2.k < feeds args.table.now =
+    omega (arith, loop2-test.taken, feed-count.ensures.0) in
     let e = feed-pairs.ensures in
-    gets-done args.table.now pre.0 (has args.marks.now) loop2.lows loop2.k (omega (arith, loop2-test.taken, feed-count.ensures.0)) loop2.inv
-    (subst (λ n. T (has args.marks.now n)) (ap₂ _+_ (ap₂ _+_ unit-count.ensures.0 output-count.ensures.0) (ap (λ l. pairInput l loop2.k) e))
+    let sets =
+    ap₂ _+_ (ap₂ _+_ unit-count.ensures.0 output-count.ensures.0) (ap (λ l. pairInput l loop2.k) e)
+    in
+    gets-done args.table.now pre.0 (has args.marks.now) loop2.lows loop2.k more loop2.inv
+    (subst (λ n. T (has args.marks.now n)) sets
     (says has′.ensures (not-false _ c.if2.left)))
 
 loop2-less-3 : tie.Need-loop2-less-3 Inv-loop μ-loop Inv-loop2 μ-loop2
@@ -234,22 +314,31 @@ loop2-again-3 : tie.Need-loop2-again-3 Inv-loop μ-loop Inv-loop2 μ-loop2
 loop2-again-3 c =
     let loop2-test = c.before.before.before.before.loop2-test in
     let loop2 = c.before.before.before.before.before.loop2 in
-    let feed-count = c.before.before.before.before.before.before.before.before.before.before.before.feed-count in
-    let feed-pairs = c.before.before.before.before.before.before.before.before.before.before.before.before.feed-pairs in
-    let start = c.before.before.before.before.before.before.before.before.before.before.before.before.before.before in
+    let at-feed-count =
+    c.before.before.before.before.before.before.before.before.before.before.before in
+    let feed-count = at-feed-count.feed-count in
+    let feed-pairs = at-feed-count.before.feed-pairs in
+    let start = at-feed-count.before.before.before in
     let args = start.args in
     let pre = start.pre in
+    let more : loop2.k < feeds args.table.now =
+    omega (arith, loop2-test.taken, feed-count.ensures.0) in
     let e = feed-pairs.ensures in
-    gets-higher args.table.now pre.0 (has args.marks.now) loop2.lows loop2.k (omega (arith, loop2-test.taken, feed-count.ensures.0)) loop2.inv
+    gets-higher args.table.now pre.0 (has args.marks.now) loop2.lows loop2.k more loop2.inv
     (subst (λ l. getD loop2.lows (pairOutput l loop2.k) 0 ≤ pairInput l loop2.k) e c.if1.left)
 
 returns : tie.Need-returns Inv-loop μ-loop Inv-loop2 μ-loop2
 returns c =
     let loop2 = c.before.loop2 in
-    let feed-count = c.before.before.before.before.before.before.before.feed-count in
-    let start = c.before.before.before.before.before.before.before.before.before.before in
+    let at-feed-count = c.before.before.before.before.before.before.before in
+    let feed-count = at-feed-count.feed-count in
+    let start = at-feed-count.before.before.before in
     let args = start.args in
-    gets-end args.table.now start.pre.0 (has args.marks.now) loop2.lows loop2.k (omega (arith, c.loop2-test.left, feed-count.ensures.0)) loop2.inv
+    gets-end args.table.now start.pre.0 (has args.marks.now) loop2.lows loop2.k (omega (
+      arith,
+      c.loop2-test.left,
+      feed-count.ensures.0,
+    )) loop2.inv
 
 pub low-gets-spec : {M : Type 1} → statement M
 low-gets-spec =

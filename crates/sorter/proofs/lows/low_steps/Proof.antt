@@ -13,23 +13,20 @@ use Rattle.search.specs.Truth.{says, denies}
 use Rattle.table.specs.Layout.{long-input-owners, long-kinds}
 use Rattle.bits.specs.Bits.{has}
 use Rattle.sorter.proofs.Passes.{Filled, filled-starts, filled-on, Steps, steps-start}
-use Rattle.sorter.proofs.Passes.{steps-owner, steps-delayed, steps-done, steps-here, steps-end}
+use Rattle.sorter.proofs.Passes.{steps-owner, steps-delayed, steps-done}
+use Rattle.sorter.proofs.Passes.{steps-here, steps-end}
 
 abbrev Inv-loop : tie.InvT-loop
-Inv-loop table marks lows₀ owners kinds sets x u₀ lows u =
-    Filled 32 x lows u
+Inv-loop table marks lows₀ owners kinds sets x u₀ lows u = Filled 32 x lows u
 
 abbrev μ-loop : tie.MeasureT-loop
-μ-loop table marks lows₀ owners kinds sets x u₀ lows u =
-    32 - u
+μ-loop table marks lows₀ owners kinds sets x u₀ lows u = 32 - u
 
 abbrev Inv-loop2 : tie.InvT-loop2
-Inv-loop2 table marks lows₀ owners kinds sets x₀ u lows x =
-    Steps table (has marks) lows x
+Inv-loop2 table marks lows₀ owners kinds sets x₀ u lows x = Steps table (has marks) lows x
 
 abbrev μ-loop2 : tie.MeasureT-loop2
-μ-loop2 table marks lows₀ owners kinds sets x₀ u lows x =
-    x
+μ-loop2 table marks lows₀ owners kinds sets x₀ u lows x = x
 
 input-owners-requires : tie.Need-input-owners-requires Inv-loop μ-loop Inv-loop2 μ-loop2
 input-owners-requires c κs = search needs
@@ -51,11 +48,13 @@ input-count-requires c κs = search needs
 
 loop-holds : tie.Need-loop-holds Inv-loop μ-loop Inv-loop2 μ-loop2
 loop-holds c =
-    let start = c.before.before.before.before.before.before in filled-starts 32 _ start.args.lows.now start.pre.1
+    let start = c.before.before.before.before.before.before in
+    filled-starts 32 _ start.args.lows.now start.pre.1
 
 cast-lows : tie.Need-cast-lows Inv-loop μ-loop Inv-loop2 μ-loop2
 cast-lows c =
-    let input-count = c.before.before.input-count in record { fits = omega (arith, input-count.ensures.1) }
+    let input-count = c.before.before.input-count in
+    record { fits = omega (arith, input-count.ensures.1) }
 
 element-write-lows : tie.Need-element-write-lows Inv-loop μ-loop Inv-loop2 μ-loop2
 element-write-lows c = search needs
@@ -76,7 +75,8 @@ loop2-holds c =
     let input-count = c.before.before.input-count in
     let start = c.before.before.before.before.before.before.before.before in
     let args = start.args in
-    steps-start args.table.now start.pre.0 (has args.marks.now) loop.lows loop.u _ input-count.ensures.0
+    steps-start args.table.now start.pre.0 (has args.marks.now) loop.lows loop.u _
+    input-count.ensures.0
     c.loop-test.left loop.inv
 
 sub-x : tie.Need-sub-x Inv-loop μ-loop Inv-loop2 μ-loop2
@@ -86,19 +86,34 @@ shared-slice-read-if1 : tie.Need-shared-slice-read-if1 Inv-loop μ-loop Inv-loop
 shared-slice-read-if1 c =
     let loop2-test = c.before.loop2-test in
     let loop2 = c.before.before.loop2 in
-    let input-kinds = c.before.before.before.before.before.before.before.before.input-kinds in
-    let start = c.before.before.before.before.before.before.before.before.before.before.before in
+    let at-input-kinds = c.before.before.before.before.before.before.before.before in
+    let input-kinds = at-input-kinds.input-kinds in
+    let start = at-input-kinds.before.before.before in
     let args = start.args in
     let pre = start.pre in
-    omega (arith, ap length input-kinds.ensures ∙ long-kinds args.table.now pre.0.long, loop2.inv.within, loop2-test.taken)
+    omega (
+      arith,
+      ap length input-kinds.ensures ∙ long-kinds args.table.now pre.0.long,
+      loop2.inv.within,
+      loop2-test.taken,
+    )
 
 add-has : tie.Need-add-has Inv-loop μ-loop Inv-loop2 μ-loop2
 add-has c =
     let loop2 = c.before.before.before.loop2 in
-    let output-count = c.before.before.before.before.before.before.before.output-count in
-    let unit-count = c.before.before.before.before.before.before.before.before.unit-count in
-    let pre = c.before.before.before.before.before.before.before.before.before.before.before.before.pre in
-    record { fits = omega (arith, output-count.ensures.1, unit-count.ensures.1, loop2.inv.within, pre.0.counted.inputs-most) }
+    let at-output-count = c.before.before.before.before.before.before.before in
+    let output-count = at-output-count.output-count in
+    let unit-count = at-output-count.before.unit-count in
+    let pre = at-output-count.before.before.before.before.before.pre in
+    record {
+      fits = omega (
+        arith,
+        output-count.ensures.1,
+        unit-count.ensures.1,
+        loop2.inv.within,
+        pre.0.counted.inputs-most,
+      );
+    }
 
 has-requires : tie.Need-has-requires Inv-loop μ-loop Inv-loop2 μ-loop2
 has-requires c κs = search needs
@@ -106,42 +121,67 @@ has-requires c κs = search needs
 cast-lows-2 : tie.Need-cast-lows-2 Inv-loop μ-loop Inv-loop2 μ-loop2
 cast-lows-2 c =
     let loop2 = c.before.before.before.before.before.loop2 in
-    let pre = c.before.before.before.before.before.before.before.before.before.before.before.before.before.before.pre in
+    let at-unit-count = c.before.before.before.before.before.before.before.before.before.before in
+    let pre = at-unit-count.before.before.before.before.pre in
     record { fits = omega (arith, loop2.inv.within, pre.0.counted.inputs-most) }
 
 shared-slice-read-lows : tie.Need-shared-slice-read-lows Inv-loop μ-loop Inv-loop2 μ-loop2
 shared-slice-read-lows c =
     let loop2-test = c.before.before.before.before.before.loop2-test in
     let loop2 = c.before.before.before.before.before.before.loop2 in
-    let input-owners = c.before.before.before.before.before.before.before.before.before.before.before.before.before.input-owners in
-    let start = c.before.before.before.before.before.before.before.before.before.before.before.before.before.before.before in
+    let at-input-owners =
+    c.before.before.before.before.before.before.before.before.before.before.before.before.before in
+    let input-owners = at-input-owners.input-owners in
+    let start = at-input-owners.before.before in
     let args = start.args in
     let pre = start.pre in
-    omega (arith, ap length input-owners.ensures ∙ long-input-owners args.table.now pre.0.long, loop2.inv.within, loop2-test.taken)
+    omega (
+      arith,
+      ap length input-owners.ensures ∙ long-input-owners args.table.now pre.0.long,
+      loop2.inv.within,
+      loop2-test.taken,
+    )
 
 cast-lows-3 : tie.Need-cast-lows-3 Inv-loop μ-loop Inv-loop2 μ-loop2
 cast-lows-3 c =
     let loop2-test = c.before.before.before.before.before.loop2-test in
     let loop2 = c.before.before.before.before.before.before.loop2 in
-    let input-owners = c.before.before.before.before.before.before.before.before.before.before.before.before.before.input-owners in
-    let start = c.before.before.before.before.before.before.before.before.before.before.before.before.before.before.before in
+    let at-input-owners =
+    c.before.before.before.before.before.before.before.before.before.before.before.before.before in
+    let input-owners = at-input-owners.input-owners in
+    let start = at-input-owners.before.before in
     let args = start.args in
     let pre = start.pre in
-    record { fits = omega (arith, ap (λ l. getD l (loop2.x - 1) 0) input-owners.ensures, steps-owner args.table.now pre.0 (has args.marks.now) loop2.lows loop2.x loop2-test.taken loop2.inv) }
+    record {
+      fits = omega (
+        arith,
+        ap (λ l. getD l (loop2.x - 1) 0) input-owners.ensures,
+        steps-owner args.table.now pre.0 (has args.marks.now) loop2.lows loop2.x loop2-test.taken
+            loop2.inv,
+      );
+    }
 
 element-write-lows-2 : tie.Need-element-write-lows-2 Inv-loop μ-loop Inv-loop2 μ-loop2
 element-write-lows-2 c =
     let loop2-test = c.before.before.before.before.before.loop2-test in
     let loop2 = c.before.before.before.before.before.before.loop2 in
-    let input-owners = c.before.before.before.before.before.before.before.before.before.before.before.before.before.input-owners in
-    let start = c.before.before.before.before.before.before.before.before.before.before.before.before.before.before.before in
+    let at-input-owners =
+    c.before.before.before.before.before.before.before.before.before.before.before.before.before in
+    let input-owners = at-input-owners.input-owners in
+    let start = at-input-owners.before.before in
     let args = start.args in
     let pre = start.pre in
-    omega (arith, ap (λ l. getD l (loop2.x - 1) 0) input-owners.ensures, steps-owner args.table.now pre.0 (has args.marks.now) loop2.lows loop2.x loop2-test.taken loop2.inv)
+    omega (
+      arith,
+      ap (λ l. getD l (loop2.x - 1) 0) input-owners.ensures,
+      steps-owner args.table.now pre.0 (has args.marks.now) loop2.lows loop2.x loop2-test.taken
+          loop2.inv,
+    )
 
 loop2-less : tie.Need-loop2-less Inv-loop μ-loop Inv-loop2 μ-loop2
 loop2-less c =
-    let loop2-test = c.before.before.before.before.before.loop2-test in omega (arith, loop2-test.taken)
+    let loop2-test = c.before.before.before.before.before.loop2-test in
+    omega (arith, loop2-test.taken)
 
 loop2-again : tie.Need-loop2-again Inv-loop μ-loop Inv-loop2 μ-loop2
 loop2-again c =
@@ -150,51 +190,61 @@ loop2-again c =
     let if1 = c.before.before.before.if1 in
     let loop2-test = c.before.before.before.before.before.loop2-test in
     let loop2 = c.before.before.before.before.before.before.loop2 in
-    let output-count = c.before.before.before.before.before.before.before.before.before.before.output-count in
-    let unit-count = c.before.before.before.before.before.before.before.before.before.before.before.unit-count in
-    let input-kinds = c.before.before.before.before.before.before.before.before.before.before.before.before.input-kinds in
-    let input-owners = c.before.before.before.before.before.before.before.before.before.before.before.before.before.input-owners in
-    let start = c.before.before.before.before.before.before.before.before.before.before.before.before.before.before.before in
+    let at-output-count = c.before.before.before.before.before.before.before.before.before.before in
+    let output-count = at-output-count.output-count in
+    let unit-count = at-output-count.before.unit-count in
+    let input-kinds = at-output-count.before.before.input-kinds in
+    let input-owners = at-output-count.before.before.before.input-owners in
+    let start = at-output-count.before.before.before.before.before in
     let args = start.args in
     let pre = start.pre in
     let x = loop2.x - 1 in
-    steps-here args.table.now pre.0 (has args.marks.now) loop2.lows loop2.x loop2-test.taken loop2.inv _
+    steps-here args.table.now pre.0 (has args.marks.now) loop2.lows loop2.x loop2-test.taken
+    loop2.inv _
     (ap (λ l. getD l x 0) input-owners.ensures)
     (sym (ap (λ l. getD l x 0) input-kinds.ensures) ∙ if1.taken)
-    (subst (λ n. T (not (has args.marks.now (n + x)))) (ap₂ _+_ unit-count.ensures.0 output-count.ensures.0)
+    (subst (λ n. T (not (has args.marks.now (n + x))))
+    (ap₂ _+_ unit-count.ensures.0 output-count.ensures.0)
     (denies has′.ensures (not-true _ if2.taken)))
 
 loop2-less-2 : tie.Need-loop2-less-2 Inv-loop μ-loop Inv-loop2 μ-loop2
 loop2-less-2 c =
-    let loop2-test = c.before.before.before.before.loop2-test in omega (arith, loop2-test.taken)
+    let loop2-test = c.before.before.before.before.loop2-test in
+    omega (arith, loop2-test.taken)
 
 loop2-again-2 : tie.Need-loop2-again-2 Inv-loop μ-loop Inv-loop2 μ-loop2
 loop2-again-2 c =
     let has′ = c.before.has in
     let loop2-test = c.before.before.before.before.loop2-test in
     let loop2 = c.before.before.before.before.before.loop2 in
-    let output-count = c.before.before.before.before.before.before.before.before.before.output-count in
-    let unit-count = c.before.before.before.before.before.before.before.before.before.before.unit-count in
-    let start = c.before.before.before.before.before.before.before.before.before.before.before.before.before.before in
+    let at-output-count = c.before.before.before.before.before.before.before.before.before in
+    let output-count = at-output-count.output-count in
+    let unit-count = at-output-count.before.unit-count in
+    let start = at-output-count.before.before.before.before.before in
     let args = start.args in
     let pre = start.pre in
-    steps-done args.table.now pre.0 (has args.marks.now) loop2.lows loop2.x loop2-test.taken loop2.inv
-    (subst (λ n. T (has args.marks.now (n + (loop2.x - 1)))) (ap₂ _+_ unit-count.ensures.0 output-count.ensures.0)
+    steps-done args.table.now pre.0 (has args.marks.now) loop2.lows loop2.x loop2-test.taken
+    loop2.inv
+    (subst (λ n. T (has args.marks.now (n + (loop2.x - 1))))
+    (ap₂ _+_ unit-count.ensures.0 output-count.ensures.0)
     (says has′.ensures (not-false _ c.if2.left)))
 
 loop2-less-3 : tie.Need-loop2-less-3 Inv-loop μ-loop Inv-loop2 μ-loop2
 loop2-less-3 c =
-    let loop2-test = c.before.before.loop2-test in omega (arith, loop2-test.taken)
+    let loop2-test = c.before.before.loop2-test in
+    omega (arith, loop2-test.taken)
 
 loop2-again-3 : tie.Need-loop2-again-3 Inv-loop μ-loop Inv-loop2 μ-loop2
 loop2-again-3 c =
     let loop2-test = c.before.before.loop2-test in
     let loop2 = c.before.before.before.loop2 in
-    let input-kinds = c.before.before.before.before.before.before.before.before.before.input-kinds in
-    let start = c.before.before.before.before.before.before.before.before.before.before.before.before in
+    let at-input-kinds = c.before.before.before.before.before.before.before.before.before in
+    let input-kinds = at-input-kinds.input-kinds in
+    let start = at-input-kinds.before.before.before in
     let args = start.args in
     let pre = start.pre in
-    steps-delayed args.table.now pre.0 (has args.marks.now) loop2.lows loop2.x loop2-test.taken loop2.inv
+    steps-delayed args.table.now pre.0 (has args.marks.now) loop2.lows loop2.x loop2-test.taken
+    loop2.inv
     (λ e. c.if1.left (ap (λ l. getD l (loop2.x - 1) 0) input-kinds.ensures ∙ e))
 
 returns : tie.Need-returns Inv-loop μ-loop Inv-loop2 μ-loop2
@@ -202,7 +252,8 @@ returns c =
     let loop2 = c.before.loop2 in
     let start = c.before.before.before.before.before.before.before.before.before.before in
     let args = start.args in
-    steps-end args.table.now start.pre.0 (has args.marks.now) loop2.lows loop2.x c.loop2-test.left loop2.inv
+    steps-end args.table.now start.pre.0 (has args.marks.now) loop2.lows loop2.x c.loop2-test.left
+    loop2.inv
 
 pub low-steps-spec : {M : Type 1} → statement M
 low-steps-spec =

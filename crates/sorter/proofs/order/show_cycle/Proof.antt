@@ -18,8 +18,10 @@ mark-requires : tie.Need-mark-requires
 mark-requires c κs =
     let start = c.before.before.before.before in
     let args = start.args in
-    let pre = start.pre in
-    (empty-words, (empty-has, placed-below args.table.now _ pre.1.1.1.1.0 (few-calls args.table.now pre.0)))
+    let pre = start.pre in (
+      empty-words,
+      (empty-has, placed-below args.table.now _ pre.1.1.1.1.0 (few-calls args.table.now pre.0)),
+    )
 
 low-steps-requires : tie.Need-low-steps-requires
 low-steps-requires c κs = search needs
@@ -30,14 +32,27 @@ low-gets-requires c κs = search needs
 walk-back-requires : tie.Need-walk-back-requires
 walk-back-requires c κs =
     let low-gets = c.before.before.before.before.low-gets in
-    let low-steps = c.before.before.before.before.before.before.before.low-steps in
-    let mark = c.before.before.before.before.before.before.before.before.before.before.mark in
-    let start = c.before.before.before.before.before.before.before.before.before.before.before.before.before.before.before in
+    let at-low-steps = c.before.before.before.before.before.before.before in
+    let low-steps = at-low-steps.low-steps in
+    let mark = at-low-steps.before.before.before.mark in
+    let start = at-low-steps.before.before.before.before.before.before.before.before in
     let args = start.args in
     let pre = start.pre in
     let early = sym (ap length pre.1.1.1.1.0) ∙ chain-long args.bytes.now args.placed args.last in
-    let marks = mark.ensures ∙ ap among pre.1.1.1.1.0 in
-    (pre.0, (pre.1.0, (omega (arith, early, pre.1.1.1.0), (marks, (low-steps.ensures, (low-gets.ensures, pre.1.1.0))))))
+    let marks = mark.ensures ∙ ap among pre.1.1.1.1.0 in (
+      pre.0,
+      (
+        pre.1.0,
+        (
+          omega (
+            arith,
+            early,
+            pre.1.1.1.0,
+          ),
+          (marks, (low-steps.ensures, (low-gets.ensures, pre.1.1.0))),
+        ),
+      ),
+    )
 
 sub-write-met : tie.Need-sub-write-met
 sub-write-met c = search needs
@@ -51,14 +66,24 @@ part-write-met-end c = search needs
 cast-write-met : tie.Need-cast-write-met
 cast-write-met c =
     let walk-back = c.before.before.before.walk-back in
-    let start = c.before.before.before.before.before.before.before.before.before.before.before.before.before.before.before.before.before.before.before in
+    let at-low-steps =
+    c.before.before.before.before.before.before.before.before.before.before.before in
+    let start = at-low-steps.before.before.before.before.before.before.before.before in
     let args = start.args in
     let pre = start.pre in
-    record { fits = omega (arith, met-call args.table.now _ _ _ walk-back.ensures, few-calls args.table.now pre.0) }
+    record {
+      fits = omega (
+        arith,
+        met-call args.table.now _ _ _ walk-back.ensures,
+        few-calls args.table.now pre.0,
+      );
+    }
 
 cast-write-met-2 : tie.Need-cast-write-met-2
 cast-write-met-2 c =
-    let start = c.before.before.before.before.before.before.before.before.before.before.before.before.before.before.before.before.before.before.before in
+    let at-low-steps =
+    c.before.before.before.before.before.before.before.before.before.before.before in
+    let start = at-low-steps.before.before.before.before.before.before.before.before in
     let args = start.args in
     let pre = start.pre in
     record { fits = omega (arith, pre.1.0, few-calls args.table.now pre.0) }
@@ -66,7 +91,9 @@ cast-write-met-2 c =
 write-met-requires : tie.Need-write-met-requires
 write-met-requires c κs =
     let walk-back = c.before.before.before.before.walk-back in
-    let start = c.before.before.before.before.before.before.before.before.before.before.before.before.before.before.before.before.before.before.before.before in
+    let at-low-steps =
+    c.before.before.before.before.before.before.before.before.before.before.before.before in
+    let start = at-low-steps.before.before.before.before.before.before.before.before in
     let args = start.args in
     let pre = start.pre in
     let rest = path-rest args.table.now _ _ _ walk-back.ensures in (
@@ -90,8 +117,10 @@ same-length c = search needs
 returns : tie.Need-returns
 returns c =
     let write-met = c.before.before.write-met in
-    let walk-back = c.before.before.before.before.before.before.before.walk-back in
-    let start = c.before.before.before.before.before.before.before.before.before.before.before.before.before.before.before.before.before.before.before.before.before.before.before in
+    let at-walk-back = c.before.before.before.before.before.before.before in
+    let walk-back = at-walk-back.walk-back in
+    let at-low-steps = at-walk-back.before.before.before.before.before.before.before.before in
+    let start = at-low-steps.before.before.before.before.before.before.before.before in
     let args = start.args in
     let pre = start.pre in
     let shown = met-shown args.table.now _ _ _ walk-back.ensures _ pre.1.0 in (

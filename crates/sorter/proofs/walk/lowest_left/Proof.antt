@@ -14,12 +14,10 @@ use Rattle.bits.specs.Bits.{has}
 use Rattle.sorter.proofs.Trails.{twice}
 
 abbrev Inv-loop : tie.InvT-loop
-Inv-loop marks count c₀ c =
-    (c ≤ count) × ((k : ℕ) → k < c → T (not (not (has marks k))))
+Inv-loop marks count c₀ c = (c ≤ count) × ((k : ℕ) → k < c → T (not (not (has marks k))))
 
 abbrev μ-loop : tie.MeasureT-loop
-μ-loop marks count c₀ c =
-    count - c
+μ-loop marks count c₀ c = count - c
 
 loop-holds : tie.Need-loop-holds Inv-loop μ-loop
 loop-holds c =
@@ -57,7 +55,8 @@ returns-2 : tie.Need-returns-2 Inv-loop μ-loop
 returns-2 c =
     let loop = c.before.loop in
     let args = c.before.before.args in
-    not-found (λ k. not (has args.marks.now k)) args.count loop.c c.loop-test.left loop.inv.0 loop.inv.1
+    not-found (λ k. not (has args.marks.now k)) args.count loop.c c.loop-test.left loop.inv.0
+    loop.inv.1
 
 pub lowest-left-spec : {M : Type 1} → statement M
 lowest-left-spec =

@@ -10,16 +10,15 @@ use Rattle.sorter.proofs.Trails.{Marking, marking-starts, marking-call}
 use Rattle.sorter.proofs.Trails.{marking-on, marking-ends}
 
 abbrev Inv-loop : tie.InvT-loop
-Inv-loop bytes last count marks₀ n₀ c₀ marks n c =
-    Marking bytes count last marks n c
+Inv-loop bytes last count marks₀ n₀ c₀ marks n c = Marking bytes count last marks n c
 
 abbrev μ-loop : tie.MeasureT-loop
-μ-loop bytes last count marks₀ n₀ c₀ marks n c =
-    n
+μ-loop bytes last count marks₀ n₀ c₀ marks n c = n
 
 loop-holds : tie.Need-loop-holds Inv-loop μ-loop
 loop-holds c =
-    let args = c.args in marking-starts args.bytes.now args.count args.last args.marks.now c.pre.0 c.pre.1.0
+    let args = c.args in
+    marking-starts args.bytes.now args.count args.last args.marks.now c.pre.0 c.pre.1.0
 
 sub-n : tie.Need-sub-n Inv-loop μ-loop
 sub-n c = search needs
@@ -62,7 +61,8 @@ loop-again c =
     let args = start.args in
     let pre = start.pre in
     let small = pre.1.1 loop.c (marking-call _ _ _ _ _ _ loop.inv loop-test.taken) in
-    subst (λ l. Marking args.bytes.now args.count args.last l (loop.n - 1) (getD args.bytes.now loop.c 0)) (sym put.ensures)
+    subst (λ l. Marking args.bytes.now args.count args.last l (loop.n - 1)
+    (getD args.bytes.now loop.c 0)) (sym put.ensures)
     (marking-on _ _ _ _ _ _ loop.inv loop-test.taken small)
 
 returns : tie.Need-returns Inv-loop μ-loop

@@ -19,8 +19,7 @@ Inv-loop table count marks steps gets path₀ seen₀ at₀ call₀ path seen at
     Trail table path seen at call
 
 abbrev μ-loop : tie.MeasureT-loop
-μ-loop table count marks steps gets path₀ seen₀ at₀ call₀ path seen at call =
-    at
+μ-loop table count marks steps gets path₀ seen₀ at₀ call₀ path seen at call = at
 
 lowest-left-requires : tie.Need-lowest-left-requires Inv-loop μ-loop
 lowest-left-requires c κs = search needs
@@ -48,7 +47,8 @@ sub-at c =
     let early : length (placedOf args.table.now) < callCount args.table.now =
     omega (arith, pre.1.0, pre.1.1.0) in
     let few = few-calls args.table.now pre.0 in
-    trail-room args.table.now early few _ _ _ _ loop.inv (denies has.ensures (not-true _ c.if1.taken))
+    trail-room args.table.now early few _ _ _ _ loop.inv
+    (denies has.ensures (not-true _ c.if1.taken))
 
 cast-path : tie.Need-cast-path Inv-loop μ-loop
 cast-path c =
@@ -68,7 +68,12 @@ element-write-path c =
     let early : length (placedOf args.table.now) < callCount args.table.now =
     omega (arith, pre.1.0, pre.1.1.0) in
     let few = few-calls args.table.now pre.0 in
-    omega (arith, loop.inv.place, trail-room args.table.now early few _ _ _ _ loop.inv (denies has.ensures (not-true _ c.if1.taken)))
+    omega (
+      arith,
+      loop.inv.place,
+      trail-room args.table.now early few _ _ _ _ loop.inv
+          (denies has.ensures (not-true _ c.if1.taken)),
+    )
 
 put-requires : tie.Need-put-requires Inv-loop μ-loop
 put-requires c κs = search needs
@@ -90,7 +95,11 @@ loop-less c =
     let early : length (placedOf args.table.now) < callCount args.table.now =
     omega (arith, pre.1.0, pre.1.1.0) in
     let few = few-calls args.table.now pre.0 in
-    omega (arith, trail-room args.table.now early few _ _ _ _ loop.inv (denies has.ensures (not-true _ if1.taken)))
+    omega (
+      arith,
+      trail-room args.table.now early few _ _ _ _ loop.inv
+          (denies has.ensures (not-true _ if1.taken)),
+    )
 
 loop-again : tie.Need-loop-again Inv-loop μ-loop
 loop-again c =
@@ -104,8 +113,10 @@ loop-again c =
     let early : length (placedOf args.table.now) < callCount args.table.now =
     omega (arith, pre.1.0, pre.1.1.0) in
     let few = few-calls args.table.now pre.0 in
-    subst (λ l. Trail args.table.now (set loop.path (loop.at - 1) loop.call) l (loop.at - 1) c.lowest-before.result) (sym put.ensures)
-    (trail-on args.table.now early few _ _ _ _ loop.inv _ (denies has.ensures (not-true _ if1.taken))
+    subst (λ l. Trail args.table.now (set loop.path (loop.at - 1) loop.call) l (loop.at - 1)
+    c.lowest-before.result) (sym put.ensures)
+    (trail-on args.table.now early few _ _ _ _ loop.inv _
+    (denies has.ensures (not-true _ if1.taken))
     (before-is args.table.now args.marks.now _ _ pre.1.1.1.0 c.lowest-before.ensures))
 
 returns : tie.Need-returns Inv-loop μ-loop
