@@ -8,8 +8,11 @@ ghost use Rattle.table.specs.Sound.{Sound};
 ghost use Rattle.orders.specs.Walk.{among, upto};
 ghost use Rattle.orders.specs.Turn.{turn, lowestPlace};
 ghost use Rattle.placing.specs.Placing.{callCount, placedOf};
+ghost use Rattle.placing.specs.Thread.{chain};
 ghost use Rattle.sorter.specs.Ordering.{shownOf, ordering};
 ghost use Rattle.sorter.specs.OrderOrCycle.{OrderOrCycle};
+use crate::lows::low_gets;
+use crate::lows::low_steps;
 use crate::show::lowest_of;
 use crate::show::place_of;
 use crate::show::write_turned;
@@ -40,23 +43,35 @@ fn write_met(seen: &[u8], call: u8, count: u8, out: &mut [u8]) -> usize
 }
 
 // Writes the cycle of what remains at the front of `out`; gives its length.
-// `calls` holds the placed calls; once they are marked it serves as the walk's path.
-fn show_cycle(table: &[u8], count: usize, placed: usize, calls: &mut [u8], out: &mut [u8]) -> usize
+// `bytes` threads the placed calls; once they are marked it serves as the walk's path.
+fn show_cycle(
+    table: &[u8],
+    count: usize,
+    placed: usize,
+    last: u8,
+    bytes: &mut [u8; 224],
+    out: &mut [u8],
+) -> usize
     requires { ⌜ Sound (now table) ⌝ }
     requires { ⌜ count ≡ callCount (now table) ⌝ }
-    requires { ⌜ length (now calls) ≡ 224 ⌝ }
+    requires { ⌜ length (now bytes) ≡ 224 ⌝ }
     requires { ⌜ placed < count ⌝ }
-    requires { ⌜ take placed (now calls) ≡ placedOf (now table) ⌝ }
+    requires { ⌜ chain (now bytes) placed last ≡ placedOf (now table) ⌝ }
     requires { ⌜ count ≤ length (now out) ⌝ }
     ensures { λ r. ⌜ r ≡ length (shownOf (now (table .entry))) ⌝ }
     ensures { λ r. ⌜ now (out .exit) ≡ fronted (shownOf (now (table .entry))) (now (out .entry)) ⌝ }
 {
-    let mut marks: [u8; 224] = [0; 224];
-    mark(&calls[..placed], &mut marks);
-    let met = walk_back(table, count, &marks, calls);
+    let mut marks: [u64; 4] = [0; 4];
+    let mut steps: [u8; 32] = [0; 32];
+    let mut gets: [u8; 96] = [0; 96];
+    mark(bytes, last, placed, &mut marks);
+    low_steps(table, &marks, &mut steps);
+    low_gets(table, &marks, &mut gets);
+    let met = walk_back(table, count, &marks, &steps, &gets, bytes);
     let at = met.at;
     let call = met.call;
-    write_met(&calls[at..], call as u8, count as u8, out)
+    let path = &bytes[..];
+    write_met(&path[at..], call as u8, count as u8, out)
 }
 
 // The first order at the front of `out`, or the cycle, or another refusal, which writes nothing.

@@ -2,13 +2,15 @@
 use borrow.Author.Needs.{needs}
 use Rattle.sorter.proofs.back.before_set.Statement.{statement}
 use Rattle.sorter.proofs.back.before_set.Tie as tie
-use Prim.Native.Nat.{ℕ}
-use mathlib.Core.Path.{_≡_, sym, ap, subst, _∙_}
+use mathlib.Core.Path.{sym, ap, subst, _∙_}
+use mathlib.Core.Bool.{not}
+use lib.Dec.{T}
 use lib.ListN.{getD}
-use native.Mathlib.Omega.{arith}
+use borrow.Author.Tests.{not-true, not-false}
+use Rattle.search.specs.Truth.{says, denies}
 use Rattle.table.specs.Packed.{shapeOf}
-use Rattle.table.specs.Checked.{few-calls}
-use Rattle.sorter.proofs.Before.{set-step, set-source, unmarked, is-marked}
+use Rattle.bits.specs.Bits.{has}
+use Rattle.sorter.proofs.Before.{set-step, set-source}
 
 input-kinds-requires : tie.Need-input-kinds-requires
 input-kinds-requires c κs = search needs
@@ -28,7 +30,7 @@ returns c =
     let args = start.args in
     let pre = start.pre in
     c.source-left.ensures
-    ∙ set-source (shapeOf args.table.now) pre.0.wired args.marks.now args.input pre.1
+    ∙ set-source (shapeOf args.table.now) pre.0.wired (has args.marks.now) args.input pre.1
     (λ k. absurd
     (if1.taken (byte.ensures.0 ∙ ap (λ l. getD l args.input 0) input-kinds.ensures ∙ k)))
 
@@ -38,34 +40,25 @@ input-owners-requires c κs = search needs
 byte-requires-2 : tie.Need-byte-requires-2
 byte-requires-2 c κs = search needs
 
-element-copy-out-if2 : tie.Need-element-copy-out-if2
-element-copy-out-if2 c =
-    let input-owners = c.before.input-owners in
-    let start = c.before.before.before.before.before.before in
-    let args = start.args in
-    let pre = start.pre in
-    omega (
-      arith,
-      c.byte2.ensures.0 ∙ ap (λ l. getD l args.input 0) input-owners.ensures,
-      pre.0.wired.input-owned args.input pre.1,
-      few-calls args.table.now pre.0,
-    )
+has-requires : tie.Need-has-requires
+has-requires c κs = search needs
 
 returns-2 : tie.Need-returns-2
 returns-2 c =
+    let has′ = c.before.has in
     let byte2 = c.before.before.byte2 in
     let input-owners = c.before.before.before.input-owners in
     let if1 = c.before.before.before.before.if1 in
     let byte = c.before.before.before.before.before.byte in
-    let at-input-kinds = c.before.before.before.before.before.before in
-    let input-kinds = at-input-kinds.input-kinds in
-    let args = at-input-kinds.before.before.args in
-    let pre = at-input-kinds.before.before.pre in
+    let input-kinds = c.before.before.before.before.before.before.input-kinds in
+    let start = c.before.before.before.before.before.before.before.before in
+    let args = start.args in
+    let pre = start.pre in
     let o = byte2.ensures.0 ∙ ap (λ l. getD l args.input 0) input-owners.ensures in
     o
-    ∙ set-step (shapeOf args.table.now) pre.0.wired args.marks.now args.input pre.1
+    ∙ set-step (shapeOf args.table.now) pre.0.wired (has args.marks.now) args.input pre.1
     (sym (ap (λ l. getD l args.input 0) input-kinds.ensures) ∙ sym byte.ensures.0 ∙ if1.left)
-    (unmarked args.marks.now _ (subst (λ n. _≡_ {A = ℕ} (getD args.marks.now n 0) 0) o c.if2.taken))
+    (subst (λ n. T (not (has args.marks.now n))) o (denies has′.ensures (not-true _ c.if2.taken)))
 
 source-left-requires-2 : tie.Need-source-left-requires-2
 source-left-requires-2 c κs = search needs
@@ -73,6 +66,7 @@ source-left-requires-2 c κs = search needs
 returns-3 : tie.Need-returns-3
 returns-3 c =
     let if2 = c.before.if2 in
+    let has′ = c.before.before.has in
     let byte2 = c.before.before.before.byte2 in
     let input-owners = c.before.before.before.before.input-owners in
     let start = c.before.before.before.before.before.before.before.before.before in
@@ -80,9 +74,8 @@ returns-3 c =
     let pre = start.pre in
     let o = byte2.ensures.0 ∙ ap (λ l. getD l args.input 0) input-owners.ensures in
     c.source-left2.ensures
-    ∙ set-source (shapeOf args.table.now) pre.0.wired args.marks.now args.input pre.1
-    (λ k. is-marked args.marks.now _
-    (λ z. if2.left (subst (λ n. _≡_ {A = ℕ} (getD args.marks.now n 0) 0) (sym o) z)))
+    ∙ set-source (shapeOf args.table.now) pre.0.wired (has args.marks.now) args.input pre.1
+    (λ k. subst (λ n. T (has args.marks.now n)) o (says has′.ensures (not-false _ if2.left)))
 
 pub before-set-spec : {M : Type 1} → statement M
 before-set-spec =
@@ -94,7 +87,7 @@ before-set-spec =
     returns
     input-owners-requires
     byte-requires-2
-    element-copy-out-if2
+    has-requires
     returns-2
     source-left-requires-2
     returns-3)

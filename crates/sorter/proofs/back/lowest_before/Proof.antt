@@ -3,12 +3,14 @@ use borrow.Author.Needs.{needs}
 use Rattle.sorter.proofs.back.lowest_before.Statement.{statement}
 use Rattle.sorter.proofs.back.lowest_before.Tie as tie
 use mathlib.Core.Path.{sym, ap, _∙_}
+use native.Mathlib.Omega.{arith}
 use Rattle.table.specs.Packed.{shapeOf}
 use Rattle.calls.specs.Precedence.{precedes}
 use Rattle.orders.specs.Walk.{lowestBefore}
+use Rattle.bits.specs.Bits.{has}
 use Rattle.placing.specs.Placing.{callCount}
 use Rattle.placing.proofs.Told.{told-step, told-get, told-set, told-none}
-use Rattle.sorter.specs.Marks.{marked}
+use Rattle.sorter.proofs.Before.{step-lowest}
 
 call-of-requires : tie.Need-call-of-requires
 call-of-requires c κs = search needs
@@ -16,17 +18,20 @@ call-of-requires c κs = search needs
 enum-known-kind : tie.Need-enum-known-kind
 enum-known-kind c = search needs
 
-before-step-requires : tie.Need-before-step-requires
-before-step-requires c κs =
+element-copy-out-set-of : tie.Need-element-copy-out-set-of
+element-copy-out-set-of c =
     let kind = c.before.kind in
     let call-of = c.before.before.before.call-of in
     let start = c.before.before.before.before.before in
     let args = start.args in
-    let pre = start.pre in (
-      pre.0,
-      told-step (shapeOf args.table.now) args.call pre.1 kind.given.0.0
-          (sym call-of.ensures ∙ kind.given.1) .0,
-    )
+    let pre = start.pre in
+    let told =
+    told-step (shapeOf args.table.now) args.call pre.1.0 kind.given.0.0
+    (sym call-of.ensures ∙ kind.given.1) in
+    omega (arith, told .0, pre.0.counted.units-most)
+
+set-of-requires : tie.Need-set-of-requires
+set-of-requires c κs = search needs
 
 enum-known-kind-2 : tie.Need-enum-known-kind-2
 enum-known-kind-2 c = search needs
@@ -37,11 +42,11 @@ before-get-requires c κs =
     let call-of = c.before.before.before.call-of in
     let start = c.before.before.before.before.before in
     let args = start.args in
-    let pre = start.pre in (
-      pre.0,
-      told-get (shapeOf args.table.now) args.call pre.1 kind2.given.0.0
-          (sym call-of.ensures ∙ kind2.given.1) .0,
-    )
+    let pre = start.pre in
+    let told =
+    told-get (shapeOf args.table.now) args.call pre.1.0 kind2.given.0.0
+    (sym call-of.ensures ∙ kind2.given.1) in
+    (pre.0, (told .0, pre.1.1.1))
 
 enum-known-kind-3 : tie.Need-enum-known-kind-3
 enum-known-kind-3 c = search needs
@@ -54,7 +59,7 @@ before-set-requires c κs =
     let args = start.args in
     let pre = start.pre in (
       pre.0,
-      told-set (shapeOf args.table.now) args.call pre.1 kind3.given.0.0
+      told-set (shapeOf args.table.now) args.call pre.1.0 kind3.given.0.0
           (sym call-of.ensures ∙ kind3.given.1) .0,
     )
 
@@ -63,17 +68,22 @@ enum-told c = search needs
 
 returns : tie.Need-returns
 returns c =
-    let kind = c.before.before.kind in
-    let call-of = c.before.before.before.before.call-of in
-    let start = c.before.before.before.before.before.before in
+    let kind = c.before.before.before.kind in
+    let call-of = c.before.before.before.before.before.call-of in
+    let start = c.before.before.before.before.before.before.before in
     let args = start.args in
     let pre = start.pre in
-    c.before-step.ensures
+    let told =
+    told-step (shapeOf args.table.now) args.call pre.1.0 kind.given.0.0
+    (sym call-of.ensures ∙ kind.given.1) in
+    c.set-of.ensures
+    ∙ step-lowest (shapeOf args.table.now) pre.0.wired (has args.marks.now) kind.given.0.0 _
+    (told .0)
+    (pre.1.1.0.each kind.given.0.0 (told .0))
     ∙ ap
     (lowestBefore (callCount args.table.now) (precedes (shapeOf args.table.now))
-    (marked args.marks.now))
-    (told-step (shapeOf args.table.now) args.call pre.1 kind.given.0.0
-    (sym call-of.ensures ∙ kind.given.1) .1)
+    (has args.marks.now))
+    (told .1)
 
 returns-2 : tie.Need-returns-2
 returns-2 c =
@@ -85,8 +95,8 @@ returns-2 c =
     c.before-get.ensures
     ∙ ap
     (lowestBefore (callCount args.table.now) (precedes (shapeOf args.table.now))
-    (marked args.marks.now))
-    (told-get (shapeOf args.table.now) args.call pre.1 kind2.given.0.0
+    (has args.marks.now))
+    (told-get (shapeOf args.table.now) args.call pre.1.0 kind2.given.0.0
     (sym call-of.ensures ∙ kind2.given.1) .1)
 
 returns-3 : tie.Need-returns-3
@@ -99,8 +109,8 @@ returns-3 c =
     c.before-set.ensures
     ∙ ap
     (lowestBefore (callCount args.table.now) (precedes (shapeOf args.table.now))
-    (marked args.marks.now))
-    (told-set (shapeOf args.table.now) args.call pre.1 kind3.given.0.0
+    (has args.marks.now))
+    (told-set (shapeOf args.table.now) args.call pre.1.0 kind3.given.0.0
     (sym call-of.ensures ∙ kind3.given.1) .1)
 
 returns-4 : tie.Need-returns-4
@@ -110,7 +120,8 @@ returns-4 c =
     let args = start.args in
     let pre = start.pre in
     absurd
-    (told-none (shapeOf args.table.now) args.call pre.1 (sym call-of.ensures ∙ c.enum-told.given.1))
+    (told-none (shapeOf args.table.now) args.call pre.1.0
+    (sym call-of.ensures ∙ c.enum-told.given.1))
 
 pub lowest-before-spec : {M : Type 1} → statement M
 lowest-before-spec =
@@ -118,7 +129,8 @@ lowest-before-spec =
     (tie.spec
     call-of-requires
     enum-known-kind
-    before-step-requires
+    element-copy-out-set-of
+    set-of-requires
     enum-known-kind-2
     before-get-requires
     enum-known-kind-3

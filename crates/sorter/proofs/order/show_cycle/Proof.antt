@@ -3,54 +3,56 @@ use borrow.Author.Needs.{needs}
 use Rattle.sorter.proofs.order.show_cycle.Statement.{statement}
 use Rattle.sorter.proofs.order.show_cycle.Tie as tie
 use Prim.Native.Nat.{ℕ, _<_}
-use mathlib.Core.Path.{refl, sym, ap, subst, _∙_}
+use mathlib.Core.Path.{sym, ap, subst, _∙_}
 use native.Mathlib.Omega.{arith}
 use lib.Dec.{T}
 use lib.ListN.{length, getD}
-use lib.Seq.{length-take-le}
 use Rattle.search.specs.Front.{fronted}
+use Rattle.bits.specs.Laws.{empty-words, empty-has}
 use Rattle.table.specs.Checked.{few-calls}
 use Rattle.orders.specs.Walk.{among}
-use Rattle.placing.proofs.Stage.{zeros}
-use Rattle.sorter.proofs.Showing.{placed-few, placed-long, path-rest}
+use Rattle.sorter.proofs.Showing.{placed-below, chain-long, path-rest}
 use Rattle.sorter.proofs.Showing.{path-few, met-shown, met-call}
-
-slice-reshare-prefix-mark : tie.Need-slice-reshare-prefix-mark
-slice-reshare-prefix-mark c =
-    let start = c.before.before.before in
-    let args = start.args in
-    let pre = start.pre in
-    let few = few-calls args.table.now pre.0 in omega (arith, pre.1.0, pre.1.1.0, pre.1.1.1.0, few)
-
-slice-aggregate-mark : tie.Need-slice-aggregate-mark
-slice-aggregate-mark c =
-    let start = c.before.before.before.before in
-    let args = start.args in
-    let pre = start.pre in
-    let few = few-calls args.table.now pre.0 in
-    let fits = pre.1.1.1.0 in
-    sym (length-take-le args.placed args.calls.now (omega (arith, pre.1.0, pre.1.1.0, fits, few)))
 
 mark-requires : tie.Need-mark-requires
 mark-requires c κs =
-    let start = c.before.before.before.before.before in
+    let start = c.before.before.before.before in
     let args = start.args in
-    let pre = start.pre in
-    (refl, (zeros 224, placed-few args.table.now _ pre.1.1.1.1.0 (few-calls args.table.now pre.0)))
+    let pre = start.pre in (
+      empty-words,
+      (empty-has, placed-below args.table.now _ pre.1.1.1.1.0 (few-calls args.table.now pre.0)),
+    )
+
+low-steps-requires : tie.Need-low-steps-requires
+low-steps-requires c κs = search needs
+
+low-gets-requires : tie.Need-low-gets-requires
+low-gets-requires c κs = search needs
 
 walk-back-requires : tie.Need-walk-back-requires
 walk-back-requires c κs =
-    let mark = c.before.before.mark in
-    let start = c.before.before.before.before.before.before.before.before in
+    let low-gets = c.before.before.before.before.low-gets in
+    let at-low-steps = c.before.before.before.before.before.before.before in
+    let low-steps = at-low-steps.low-steps in
+    let mark = at-low-steps.before.before.before.mark in
+    let start = at-low-steps.before.before.before.before.before.before.before.before in
     let args = start.args in
     let pre = start.pre in
-    let few = few-calls args.table.now pre.0 in
-    let some = pre.1.1.1.0 in
-    let early =
-    placed-long args.table.now _ args.placed pre.1.1.1.1.0
-    (omega (arith, some, pre.1.0, pre.1.1.0, few)) in
-    let marks = mark.ensures ∙ ap among pre.1.1.1.1.0 in
-    (pre.0, (pre.1.0, (omega (arith, early, some), (marks, pre.1.1.0))))
+    let early = sym (ap length pre.1.1.1.1.0) ∙ chain-long args.bytes.now args.placed args.last in
+    let marks = mark.ensures ∙ ap among pre.1.1.1.1.0 in (
+      pre.0,
+      (
+        pre.1.0,
+        (
+          omega (
+            arith,
+            early,
+            pre.1.1.1.0,
+          ),
+          (marks, (low-steps.ensures, (low-gets.ensures, pre.1.1.0))),
+        ),
+      ),
+    )
 
 sub-write-met : tie.Need-sub-write-met
 sub-write-met c = search needs
@@ -63,9 +65,10 @@ part-write-met-end c = search needs
 
 cast-write-met : tie.Need-cast-write-met
 cast-write-met c =
-    let at-walk-back = c.before.before.before.before in
-    let walk-back = at-walk-back.walk-back in
-    let start = at-walk-back.before.before.before.before.before.before.before.before.before in
+    let walk-back = c.before.before.before.walk-back in
+    let at-low-steps =
+    c.before.before.before.before.before.before.before.before.before.before.before in
+    let start = at-low-steps.before.before.before.before.before.before.before.before in
     let args = start.args in
     let pre = start.pre in
     record {
@@ -78,17 +81,19 @@ cast-write-met c =
 
 cast-write-met-2 : tie.Need-cast-write-met-2
 cast-write-met-2 c =
-    let start = c .before .before .before .before .before .before .before .before .before .before
-    .before .before .before in
+    let at-low-steps =
+    c.before.before.before.before.before.before.before.before.before.before.before in
+    let start = at-low-steps.before.before.before.before.before.before.before.before in
     let args = start.args in
     let pre = start.pre in
     record { fits = omega (arith, pre.1.0, few-calls args.table.now pre.0) }
 
 write-met-requires : tie.Need-write-met-requires
 write-met-requires c κs =
-    let at-walk-back = c.before.before.before.before.before in
-    let walk-back = at-walk-back.walk-back in
-    let start = at-walk-back.before.before.before.before.before.before.before.before.before in
+    let walk-back = c.before.before.before.before.walk-back in
+    let at-low-steps =
+    c.before.before.before.before.before.before.before.before.before.before.before.before in
+    let start = at-low-steps.before.before.before.before.before.before.before.before in
     let args = start.args in
     let pre = start.pre in
     let rest = path-rest args.table.now _ _ _ walk-back.ensures in (
@@ -109,15 +114,13 @@ write-met-requires c κs =
 same-length : tie.Need-same-length
 same-length c = search needs
 
-same-length-2 : tie.Need-same-length-2
-same-length-2 c = search needs
-
 returns : tie.Need-returns
 returns c =
     let write-met = c.before.before.write-met in
-    let at-walk-back = c.before.before.before.before.before.before.before.before in
+    let at-walk-back = c.before.before.before.before.before.before.before in
     let walk-back = at-walk-back.walk-back in
-    let start = at-walk-back.before.before.before.before.before.before.before.before.before in
+    let at-low-steps = at-walk-back.before.before.before.before.before.before.before.before in
+    let start = at-low-steps.before.before.before.before.before.before.before.before in
     let args = start.args in
     let pre = start.pre in
     let shown = met-shown args.table.now _ _ _ walk-back.ensures _ pre.1.0 in (
@@ -129,9 +132,9 @@ pub show-cycle-spec : {M : Type 1} → statement M
 show-cycle-spec =
     tie.close
     (tie.spec
-    slice-reshare-prefix-mark
-    slice-aggregate-mark
     mark-requires
+    low-steps-requires
+    low-gets-requires
     walk-back-requires
     sub-write-met
     part-write-met-start
@@ -140,5 +143,4 @@ show-cycle-spec =
     cast-write-met-2
     write-met-requires
     same-length
-    same-length-2
     returns)
