@@ -20,7 +20,7 @@ use Rattle.orders.specs.Remains.{cons-calls, placed-stuck, left-one}
 use Rattle.orders.specs.Walked.{lowest-left, walk-met, walk-on, back}
 use Rattle.placing.specs.Placing.{callCount, placedOf}
 use Rattle.placing.specs.Thread.{chain}
-use Rattle.placing.proofs.Stage.{among-end}
+use Rattle.placing.proofs.Threads.{among-end}
 use Rattle.sorter.specs.Trail.{Walked}
 
 -- ---- marks along the thread

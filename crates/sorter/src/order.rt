@@ -18,9 +18,10 @@ use crate::show::place_of;
 use crate::show::write_turned;
 use crate::walk::mark;
 use crate::walk::walk_back;
-use placing::place::place_all;
+use placing::place::place;
+use placing::thread::write_back;
 use table::Answer;
-use table::parts::call_count;
+use table::check::check;
 
 // Writes what was seen up to the call met again, from its lowest call on; gives its length.
 fn write_met(seen: &[u8], call: u8, count: u8, out: &mut [u8]) -> usize
@@ -84,27 +85,29 @@ pub fn order(table: &[u8], out: &mut [u8]) -> Answer
         ⌜ (Sound (now (table .entry)) → callCount (now (table .entry)) ≤ length (now (out .entry))
         → OrderOrCycle (now (table .entry)) r (take (r .place) (now (out .exit)))) ⌝ }
 {
-    let mut calls: [u8; 224] = [0; 224];
-    let answer = place_all(table, &mut calls);
+    let answer = check(table);
     if answer.number != 0 {
         return answer;
     }
-    let placed = answer.place;
-    let count = call_count(table);
+    let count = answer.place;
     if out.len() < count {
         return Answer {
             number: 8,
             place: 0,
         };
     }
-    if placed == count {
-        write_turned(&calls[..count], 0, out);
+    let mut bytes: [u8; 224] = [0; 224];
+    let placed = place(table, count, &mut bytes);
+    let many = placed.count;
+    let last = placed.last;
+    if many == count {
+        write_back(&bytes, last, count, out);
         return Answer {
             number: 0,
             place: count,
         };
     }
-    let length = show_cycle(table, count, placed, &mut calls, out);
+    let length = show_cycle(table, count, many, last, &mut bytes, out);
     Answer {
         number: 9,
         place: length,
