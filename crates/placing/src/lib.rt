@@ -3,6 +3,7 @@ mod blocks;
 mod lower;
 pub mod place;
 mod release;
+mod sound;
 pub mod thread;
 mod waiting;
 

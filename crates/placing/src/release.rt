@@ -14,17 +14,17 @@ use crate::blocks::lower_feeds;
 use crate::blocks::lower_row;
 use crate::blocks::lower_rows;
 use crate::lower::lower;
+use crate::sound::feed_count;
+use crate::sound::feed_pairs;
+use crate::sound::input_count;
+use crate::sound::input_kinds;
+use crate::sound::input_owners;
+use crate::sound::input_sources;
+use crate::sound::output_count;
+use crate::sound::output_owners;
+use crate::sound::unit_count;
 use calls::Call;
-use calls::number::call_of;
-use table::parts::byte;
-use table::parts::feed_count;
-use table::parts::feed_pairs;
-use table::parts::input_kinds;
-use table::parts::input_owners;
-use table::parts::input_sources;
-use table::parts::output_count;
-use table::parts::output_owners;
-use table::parts::unit_count;
+use calls::number::call_in;
 
 // A step releases the gets of its unit's outputs and the sets of its delayed inputs.
 fn release_step(
@@ -111,8 +111,10 @@ fn release_unit(table: &[u8], input: usize, waiting: &mut [u8; 224], ready: &mut
         (now (waiting .entry)) (now (waiting .exit))
         (now (ready .entry)) (now (ready .exit)) ⌝ }
 {
-    if byte(input_kinds(table), input) == 1 {
-        lower(byte(input_owners(table), input), waiting, ready);
+    let kinds = input_kinds(table);
+    if kinds[input] == 1 {
+        let owners = input_owners(table);
+        lower(owners[input] as usize, waiting, ready);
     }
 }
 
@@ -170,7 +172,12 @@ pub fn release(
         (now (waiting .entry)) (now (waiting .exit))
         (now (ready .entry)) (now (ready .exit)) ⌝ }
 {
-    let kind = call_of(table, call);
+    let kind = call_in(
+        unit_count(table),
+        output_count(table),
+        input_count(table),
+        call,
+    );
     match kind {
         Call::Step(unit) => release_step(table, unit, own, waiting, ready),
         Call::Get(output) => release_get(table, output, mask, waiting, ready),
