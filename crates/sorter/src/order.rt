@@ -11,12 +11,10 @@ ghost use Rattle.placing.specs.Placing.{callCount, placedOf};
 ghost use Rattle.placing.specs.Thread.{chain};
 ghost use Rattle.sorter.specs.Ordering.{shownOf, ordering};
 ghost use Rattle.sorter.specs.OrderOrCycle.{OrderOrCycle};
-use crate::lows::low_gets;
-use crate::lows::low_steps;
 use crate::show::lowest_of;
 use crate::show::place_of;
 use crate::show::write_turned;
-use crate::walk::mark;
+use crate::walk::left_over;
 use crate::walk::walk_back;
 use placing::place::place;
 use placing::thread::write_back;
@@ -62,13 +60,10 @@ fn show_cycle(
     ensures { λ r. ⌜ r ≡ length (shownOf (now (table .entry))) ⌝ }
     ensures { λ r. ⌜ now (out .exit) ≡ fronted (shownOf (now (table .entry))) (now (out .entry)) ⌝ }
 {
-    let mut marks: [u64; 4] = [0; 4];
     let mut steps: [u8; 32] = [0; 32];
     let mut gets: [u8; 96] = [0; 96];
-    mark(bytes, last, placed, &mut marks);
-    low_steps(table, &marks, &mut steps);
-    low_gets(table, &marks, &mut gets);
-    let met = walk_back(table, count, &marks, &steps, &gets, bytes);
+    let first = left_over(table, count, placed, last, bytes, &mut steps, &mut gets);
+    let met = walk_back(table, first, &steps, &gets, bytes);
     let at = met.at;
     let call = met.call;
     let path = &bytes[..];

@@ -1,14 +1,15 @@
--- The call told apart has the number that was asked for.
+-- By the kind of the call; the number told apart is the call's own.
 use borrow.Author.Needs.{needs}
 use Rattle.sorter.proofs.back.lowest_before.Statement.{statement}
 use Rattle.sorter.proofs.back.lowest_before.Tie as tie
-use mathlib.Core.Path.{sym, ap, _∙_}
 use native.Mathlib.Omega.{arith}
+use mathlib.Core.Path.{sym, ap, subst, _∙_}
+use mathlib.Core.Bool.{not}
+use lib.Dec.{T}
 use Rattle.table.specs.Packed.{shapeOf}
 use Rattle.calls.specs.Precedence.{precedes}
-use Rattle.orders.specs.Walk.{lowestBefore}
-use Rattle.bits.specs.Bits.{has}
-use Rattle.placing.specs.Placing.{callCount}
+use Rattle.orders.specs.Walk.{among, lowestBefore}
+use Rattle.placing.specs.Placing.{callCount, placedOf}
 use Rattle.placing.proofs.Told.{told-step, told-get, told-set, told-none}
 use Rattle.sorter.proofs.Before.{step-lowest}
 
@@ -46,7 +47,7 @@ before-get-requires c κs =
     let told =
     told-get (shapeOf args.table.now) args.call pre.1.0 kind2.given.0.0
     (sym call-of.ensures ∙ kind2.given.1) in
-    (pre.0, (told .0, pre.1.1.1))
+    (pre.0, (told .0, (pre.1.1.0, (pre.1.1.1.1.0, pre.1.1.1.1.1))))
 
 enum-known-kind-3 : tie.Need-enum-known-kind-3
 enum-known-kind-3 c = search needs
@@ -57,11 +58,13 @@ before-set-requires c κs =
     let call-of = c.before.before.before.call-of in
     let start = c.before.before.before.before.before in
     let args = start.args in
-    let pre = start.pre in (
-      pre.0,
-      told-set (shapeOf args.table.now) args.call pre.1.0 kind3.given.0.0
-          (sym call-of.ensures ∙ kind3.given.1) .0,
-    )
+    let pre = start.pre in
+    let told =
+    told-set (shapeOf args.table.now) args.call pre.1.0 kind3.given.0.0
+    (sym call-of.ensures ∙ kind3.given.1) in
+    let stays =
+    subst (λ n. T (not (among (placedOf args.table.now) n))) (sym (told .1)) pre.1.1.1.0 in
+    (pre.0, (told .0, (pre.1.1.0, (stays, pre.1.1.1.1.0))))
 
 enum-told : tie.Need-enum-told
 enum-told c = search needs
@@ -77,12 +80,11 @@ returns c =
     told-step (shapeOf args.table.now) args.call pre.1.0 kind.given.0.0
     (sym call-of.ensures ∙ kind.given.1) in
     c.set-of.ensures
-    ∙ step-lowest (shapeOf args.table.now) pre.0.wired (has args.marks.now) kind.given.0.0 _
-    (told .0)
-    (pre.1.1.0.each kind.given.0.0 (told .0))
+    ∙ step-lowest (shapeOf args.table.now) pre.0.wired (among (placedOf args.table.now))
+    kind.given.0.0 _ (told .0) (pre.1.1.1.1.0.each kind.given.0.0 (told .0))
     ∙ ap
     (lowestBefore (callCount args.table.now) (precedes (shapeOf args.table.now))
-    (has args.marks.now))
+    (among (placedOf args.table.now)))
     (told .1)
 
 returns-2 : tie.Need-returns-2
@@ -92,12 +94,14 @@ returns-2 c =
     let start = c.before.before.before.before.before.before in
     let args = start.args in
     let pre = start.pre in
+    let told =
+    told-get (shapeOf args.table.now) args.call pre.1.0 kind2.given.0.0
+    (sym call-of.ensures ∙ kind2.given.1) in
     c.before-get.ensures
     ∙ ap
     (lowestBefore (callCount args.table.now) (precedes (shapeOf args.table.now))
-    (has args.marks.now))
-    (told-get (shapeOf args.table.now) args.call pre.1.0 kind2.given.0.0
-    (sym call-of.ensures ∙ kind2.given.1) .1)
+    (among (placedOf args.table.now)))
+    (told .1)
 
 returns-3 : tie.Need-returns-3
 returns-3 c =
@@ -106,12 +110,14 @@ returns-3 c =
     let start = c.before.before.before.before.before.before in
     let args = start.args in
     let pre = start.pre in
+    let told =
+    told-set (shapeOf args.table.now) args.call pre.1.0 kind3.given.0.0
+    (sym call-of.ensures ∙ kind3.given.1) in
     c.before-set.ensures
     ∙ ap
     (lowestBefore (callCount args.table.now) (precedes (shapeOf args.table.now))
-    (has args.marks.now))
-    (told-set (shapeOf args.table.now) args.call pre.1.0 kind3.given.0.0
-    (sym call-of.ensures ∙ kind3.given.1) .1)
+    (among (placedOf args.table.now)))
+    (told .1)
 
 returns-4 : tie.Need-returns-4
 returns-4 c =

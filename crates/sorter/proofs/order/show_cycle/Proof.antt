@@ -1,55 +1,37 @@
--- What is marked was placed, and what the walk met, turned, is what is shown (`met-shown`).
+-- What the walk met, turned, is what is shown (`met-shown`).
 use borrow.Author.Needs.{needs}
 use Rattle.sorter.proofs.order.show_cycle.Statement.{statement}
 use Rattle.sorter.proofs.order.show_cycle.Tie as tie
+use native.Mathlib.Omega.{arith}
 use Prim.Native.Nat.{ℕ, _<_}
 use mathlib.Core.Path.{sym, ap, subst, _∙_}
-use native.Mathlib.Omega.{arith}
 use lib.Dec.{T}
 use lib.ListN.{length, getD}
 use Rattle.search.specs.Front.{fronted}
-use Rattle.bits.specs.Laws.{empty-words, empty-has}
 use Rattle.table.specs.Checked.{few-calls}
 use Rattle.orders.specs.Walk.{among}
-use Rattle.sorter.proofs.Showing.{placed-below, chain-long, path-rest}
-use Rattle.sorter.proofs.Showing.{path-few, met-shown, met-call}
+use Rattle.placing.proofs.Threads.{chain-long}
+use Rattle.sorter.proofs.Showing.{path-rest, path-few, met-shown, met-call}
 
-mark-requires : tie.Need-mark-requires
-mark-requires c κs =
-    let start = c.before.before.before.before in
-    let args = start.args in
-    let pre = start.pre in (
-      empty-words,
-      (empty-has, placed-below args.table.now _ pre.1.1.1.1.0 (few-calls args.table.now pre.0)),
-    )
-
-low-steps-requires : tie.Need-low-steps-requires
-low-steps-requires c κs = search needs
-
-low-gets-requires : tie.Need-low-gets-requires
-low-gets-requires c κs = search needs
+left-over-requires : tie.Need-left-over-requires
+left-over-requires c κs =
+    let pre = c.before.before.before.before.before.pre in
+    (pre.0, (pre.1.0, (pre.1.1.1.1.0, search needs)))
 
 walk-back-requires : tie.Need-walk-back-requires
 walk-back-requires c κs =
-    let low-gets = c.before.before.before.before.low-gets in
-    let at-low-steps = c.before.before.before.before.before.before.before in
-    let low-steps = at-low-steps.low-steps in
-    let mark = at-low-steps.before.before.before.mark in
-    let start = at-low-steps.before.before.before.before.before.before.before.before in
+    let left-over = c.before.before.before.left-over in
+    let start = c.before.before.before.before.before.before.before.before.before in
     let args = start.args in
     let pre = start.pre in
-    let early = sym (ap length pre.1.1.1.1.0) ∙ chain-long args.bytes.now args.placed args.last in
-    let marks = mark.ensures ∙ ap among pre.1.1.1.1.0 in (
+    let many =
+    sym (ap length pre.1.1.1.1.0) ∙ chain-long args.bytes.now args.placed args.last in (
       pre.0,
       (
-        pre.1.0,
+        omega (arith, many, pre.1.0, pre.1.1.1.0),
         (
-          omega (
-            arith,
-            early,
-            pre.1.1.1.0,
-          ),
-          (marks, (low-steps.ensures, (low-gets.ensures, pre.1.1.0))),
+          left-over.ensures.0,
+          (left-over.ensures.1.0, (left-over.ensures.1.1, pre.1.1.0)),
         ),
       ),
     )
@@ -66,9 +48,7 @@ part-write-met-end c = search needs
 cast-write-met : tie.Need-cast-write-met
 cast-write-met c =
     let walk-back = c.before.before.before.walk-back in
-    let at-low-steps =
-    c.before.before.before.before.before.before.before.before.before.before.before in
-    let start = at-low-steps.before.before.before.before.before.before.before.before in
+    let start = c.before.before.before.before.before.before.before.before.before.before.before.before.before in
     let args = start.args in
     let pre = start.pre in
     record {
@@ -81,19 +61,13 @@ cast-write-met c =
 
 cast-write-met-2 : tie.Need-cast-write-met-2
 cast-write-met-2 c =
-    let at-low-steps =
-    c.before.before.before.before.before.before.before.before.before.before.before in
-    let start = at-low-steps.before.before.before.before.before.before.before.before in
-    let args = start.args in
-    let pre = start.pre in
-    record { fits = omega (arith, pre.1.0, few-calls args.table.now pre.0) }
+    let start = c.before.before.before.before.before.before.before.before.before.before.before.before.before in
+    record { fits = omega (arith, start.pre.1.0, few-calls start.args.table.now start.pre.0) }
 
 write-met-requires : tie.Need-write-met-requires
 write-met-requires c κs =
     let walk-back = c.before.before.before.before.walk-back in
-    let at-low-steps =
-    c.before.before.before.before.before.before.before.before.before.before.before.before in
-    let start = at-low-steps.before.before.before.before.before.before.before.before in
+    let start = c.before.before.before.before.before.before.before.before.before.before.before.before.before.before in
     let args = start.args in
     let pre = start.pre in
     let rest = path-rest args.table.now _ _ _ walk-back.ensures in (
@@ -117,10 +91,8 @@ same-length c = search needs
 returns : tie.Need-returns
 returns c =
     let write-met = c.before.before.write-met in
-    let at-walk-back = c.before.before.before.before.before.before.before in
-    let walk-back = at-walk-back.walk-back in
-    let at-low-steps = at-walk-back.before.before.before.before.before.before.before.before in
-    let start = at-low-steps.before.before.before.before.before.before.before.before in
+    let walk-back = c.before.before.before.before.before.before.before.walk-back in
+    let start = c.before.before.before.before.before.before.before.before.before.before.before.before.before.before.before.before.before in
     let args = start.args in
     let pre = start.pre in
     let shown = met-shown args.table.now _ _ _ walk-back.ensures _ pre.1.0 in (
@@ -132,9 +104,7 @@ pub show-cycle-spec : {M : Type 1} → statement M
 show-cycle-spec =
     tie.close
     (tie.spec
-    mark-requires
-    low-steps-requires
-    low-gets-requires
+    left-over-requires
     walk-back-requires
     sub-write-met
     part-write-met-start
