@@ -146,7 +146,7 @@ pub fn place(table: &[u8], count: usize, waiting: &mut [u8; 224]) -> Placed
     let mut own: [u8; 32] = [0; 32];
     let mut mask: [u8; 96] = [0; 96];
     fill(table, waiting);
-    find_ready(waiting, count, &mut ready);
+    find_ready(waiting, unit_count(table), &mut ready);
     note_owners(table, &mut own);
     note_joins(table, &mut mask);
     place_ready(table, count, &own, &mask, waiting, &mut ready)
