@@ -101,8 +101,8 @@ returns : tie.Need-returns Inv-loop μ-loop
 returns c =
     let loop = c.before.loop in
     let args = c.before.before.args in
-    noting-all (called args.keys.now) 24 args.low (length args.keys.now) loop.i args.notes.now loop.notes loop.inv.0
-    c.loop-test.left loop.inv.2
+    noting-all (called args.keys.now) 24 args.low (length args.keys.now) loop.i args.notes.now
+    loop.notes loop.inv.0 c.loop-test.left loop.inv.2
 
 pub note-spec : {M : Type 1} → statement M
 note-spec =

@@ -34,10 +34,11 @@ place-ready-requires : tie.Need-place-ready-requires
 place-ready-requires c κs =
     let note-joins = c.before.before.before.before.note-joins in
     let note-owners = c.before.before.before.before.before.before.note-owners in
-    let find-ready = c.before.before.before.before.before.before.before.before.find-ready in
-    let unit-count = c.before.before.before.before.before.before.before.before.before.before.unit-count in
-    let fill = c.before.before.before.before.before.before.before.before.before.before.before.before.fill in
-    let start = c.before.before.before.before.before.before.before.before.before.before.before.before.before.before.before in
+    let found = c.before.before.before.before.before.before.before.before in
+    let find-ready = found.find-ready in
+    let unit-count = found.before.before.unit-count in
+    let fill = found.before.before.before.before.fill in
+    let start = found.before.before.before.before.before.before.before in
     let args = start.args in
     let pre = start.pre in (
       pre.0,

@@ -72,12 +72,13 @@ same-length c = search needs
 returns-3 : tie.Need-returns-3
 returns-3 c =
     let write-back = c.before.before.write-back in
-    let place = c.before.before.before.before.before.place in
-    let if2 = c.before.before.before.before.before.before.before.if2 in
-    let call-count = c.before.before.before.before.before.before.before.before.call-count in
-    let if1 = c.before.before.before.before.before.before.before.before.before.if1 in
-    let first-refusal = c.before.before.before.before.before.before.before.before.before.before.first-refusal in
-    let args = c.before.before.before.before.before.before.before.before.before.before.before.before.before.args in
+    let placed = c.before.before.before.before.before in
+    let place = placed.place in
+    let if2 = placed.before.before.if2 in
+    let call-count = placed.before.before.before.call-count in
+    let if1 = placed.before.before.before.before.if1 in
+    let first-refusal = placed.before.before.before.before.before.first-refusal in
+    let args = placed.before.before.before.before.before.before.before.before.args in
     let t = args.table.now in
     let s =
     placing-done t (length args.calls.now) (sym first-refusal.ensures ∙ if1.left)
