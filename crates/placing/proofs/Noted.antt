@@ -9,7 +9,7 @@ use native.Mathlib.Decide.{ℕ-discrete}
 use native.Mathlib.Nat.{one-mul, zero-div, div-eq-of-lt, sub-zero}
 use lib.Dec.{T, eqb, eqb→eq, eqb-refl, not-T, lit<}
 use lib.Bits.{bitOr}
-use lib.Pow.{shl-exact}
+use lib.Pow.{shl-exact, pow-add, pow-lt}
 use lib.ListN.{length, getD, set, length-set}
 use lib.Seq.{getD-set-same, getD-set-other}
 use Rattle.search.specs.Truth.{eq-true, or-left, or-right}
@@ -19,6 +19,40 @@ use Rattle.placing.specs.Blocks.{Block, Noting, Within}
 -- a one shifted within a byte is a power of two
 pub byte-bit : (k : ℕ) → k < 8 → 1 * 2 ^ k % 2 ^ 8 ≡ 2 ^ k
 byte-bit k h = shl-exact 1 k 8 (lit< tt) (omega arith) ∙ one-mul (2 ^ k)
+
+-- ---- the block of 24 that a place stands in, without a division
+
+-- its bit while there is a place below n, and how many of its places are left
+pub record Stands (low n i bit left : ℕ) : Type 0 where
+  pub is : i < n → bit ≡ 2 ^ (low + i / 24)
+  pub places : left + i % 24 ≡ 24
+
+module _ (low n : ℕ) (small : low ≤ 4) where
+  pub stands-starts : Stands low n 0 (1 * 2 ^ low % 2 ^ 8) 24
+  stands-starts = record {
+    is = λ h. let e : low + 0 / 24 ≡ low = omega arith in rw e (byte-bit low (omega arith));
+    places = omega arith;
+  }
+
+  module _ (i bit left : ℕ) (most : n ≤ 96) (here : i < n) (g : Stands low n i bit left) where
+    -- the last place of its block
+    pub stands-next : left - 1 ≡ 0 → Stands low n (i + 1) (bit * 2 ^ 1 % 2 ^ 8) 24
+    stands-next z = record {
+      is = λ h.
+          let k = low + i / 24 in
+          let e : low + (i + 1) / 24 ≡ k + 1 = omega (arith, g .places) in
+          rw (e, g .is here)
+          (shl-exact (k + 1) 1 8 (pow-lt (omega arith)) (omega arith) ∙ sym (pow-add 2 k 1));
+      places = omega (arith, g .places);
+    }
+
+    pub stands-on : (left - 1 ≡ 0 → ⊥) → Stands low n (i + 1) bit (left - 1)
+    stands-on z = record {
+      is = λ h.
+          let e : low + (i + 1) / 24 ≡ low + i / 24 = omega (arith, g .places) in
+          rw e (g .is here);
+      places = omega (arith, g .places);
+    }
 
 -- ---- one more block noted
 block-kept : (n i b : ℕ) → Block n b → Block (bitOr n (2 ^ i)) b

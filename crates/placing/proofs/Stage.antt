@@ -9,7 +9,7 @@ use native.Mathlib.Decide.{ℕ-discrete, decLt}
 use lib.Dec.{T, eqb, ltb, eqb→eq, nltb→le}
 use lib.ListN.{length, getD, set, take, length-set, length-append}
 use lib.Seq.{getD-set-same, getD-set-other, take-at}
-use borrow.Author.Tests.{lt-ltb, le-ltb}
+use borrow.Author.Tests.{lt-ltb, le-ltb, ne-eqb}
 use Rattle.search.specs.Truth.{T-and, and-T, either, clash, is-true, is-false, eq-true, eq-false}
 use Rattle.search.specs.Truth.{same-test}
 use Rattle.search.specs.Sets.{none, add, add-self, add-other, add-cases, add-more, add-not}
@@ -20,7 +20,9 @@ use Rattle.table.specs.Shape.{Shape, total, Wired}
 use Rattle.table.specs.Packed.{shapeOf}
 use Rattle.table.specs.Sound.{Sound}
 use Rattle.table.specs.Checked.{few-calls}
-use Rattle.calls.specs.Precedence.{precedes}
+use Rattle.calls.specs.Number.{getNo}
+use Rattle.calls.specs.Numbers.{View, at-step, at-get, at-set, view}
+use Rattle.calls.specs.Precedence.{step-get, get-set, precedes}
 use Rattle.calls.specs.Neighbours.{precedes-iff, calls-only, not-self}
 use Rattle.orders.specs.Sort.{ready, nextCall, sort, placed}
 use Rattle.orders.specs.Sorted.{Ready→ready, ready→Ready, next-is, sort-step, sort-stop, sort-none}
@@ -117,17 +119,45 @@ module _ (s : Shape) (ok : Wired s) (done : ℕ → Bool) (counts bits : List �
       })
       (lowest-is (ready (total s) (precedes s) done) (total s))
 
--- before any call is placed
+-- before any call is placed each get and each set waits: for its unit's step, its source's get
+pub steps-alone : (s : Shape) (c : ℕ) → s .units ≤ c → c < total s
+    → into s (λ a. not (none a)) c ≢ 0
+steps-alone s c h l e = go (view s c l)
+  where
+    go : View s c → ⊥
+    go (at-step u k p) = omega arith
+    go (at-get y k p) =
+        into-none s (λ a. not (none a)) c e (s .outputOwner y) (step-get y k refl p) tt
+    go (at-set x k p) =
+        into-none s (λ a. not (none a)) c e (getNo s (s .source x)) (get-set x k refl p) tt
+
+-- the steps that wait for none are all calls that do
+only-steps : (s : Shape) (c n : ℕ) → n ≡ into s (λ a. not (none a)) c
+    → (ltb c (s .units) && eqb n 0) ≡ (ltb c (total s) && eqb n 0)
+only-steps s c n e = elim (decLt c (s .units)) [
+  | yes h ↦ rw (lt-ltb c (s .units) h, lt-ltb c (total s) (omega arith))
+  | no h ↦ elim (decLt c (total s)) [
+    | yes l ↦
+        rw (
+          le-ltb c (s .units) (omega arith),
+          lt-ltb c (total s) l,
+          ne-eqb n 0 (λ z. steps-alone s c (omega arith) l (sym e ∙ z)),
+        )
+    | no l ↦ rw (le-ltb c (s .units) (omega arith), le-ltb c (total s) (omega arith))
+  ]
+]
+
 pub waiting-starts : (s : Shape) (counts bits : List ℕ) → length counts ≡ 224
     → ((c : ℕ) → getD counts c 0 ≡ into s (λ a. not (none a)) c) → Words bits
-    → ((c : ℕ) → has bits c ≡ (ltb c (total s) && eqb (getD counts c 0) 0))
+    → ((c : ℕ) → has bits c ≡ (ltb c (s .units) && eqb (getD counts c 0) 0))
     → Waiting s none counts bits
 unfolding waits
 waiting-starts s counts bits l e ok b = record {
   long = l;
   left = λ c t. e c;
   words = ok;
-  bits = λ c. b c ∙ ap (λ n. ltb c (total s) && eqb n 0) (e c);
+  bits = λ c. b c ∙ only-steps s c (getD counts c 0) (e c)
+      ∙ ap (λ n. ltb c (total s) && eqb n 0) (e c);
 }
 
 -- ---- the loop

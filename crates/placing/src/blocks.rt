@@ -30,10 +30,17 @@ pub fn note(keys: &[u8], low: usize, notes: &mut [u8])
     ensures { λ r. ⌜ Noting (called (now (keys .entry))) 24 low (length (now (keys .entry)))
         (now (notes .entry)) (now (notes .exit)) ⌝ }
 {
+    let mut bit: u8 = 1 << low;
+    let mut left: usize = 24;
     let mut i = 0;
     while i < keys.len() {
         let key = keys[i] as usize;
-        notes[key] = notes[key] | 1 << (low + i / 24);
+        notes[key] = notes[key] | bit;
+        left -= 1;
+        if left == 0 {
+            left = 24;
+            bit = bit << 1;
+        }
         i += 1;
     }
 }

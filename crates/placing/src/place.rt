@@ -32,7 +32,8 @@ use crate::waiting::raise_fed;
 use crate::waiting::raise_keyed;
 use crate::waiting::raise_range;
 use table::Answer;
-use table::check::check;
+use table::check::first_refusal;
+use table::parts::call_count;
 
 // How many direct predecessors each call has, counted rule by rule.
 fn fill(table: &[u8], waiting: &mut [u8; 224])
@@ -146,7 +147,7 @@ pub fn place(table: &[u8], count: usize, waiting: &mut [u8; 224]) -> Placed
     let mut own: [u8; 32] = [0; 32];
     let mut mask: [u8; 96] = [0; 96];
     fill(table, waiting);
-    find_ready(waiting, count, &mut ready);
+    find_ready(waiting, unit_count(table), &mut ready);
     note_owners(table, &mut own);
     note_joins(table, &mut mask);
     place_ready(table, count, &own, &mask, waiting, &mut ready)
@@ -159,11 +160,14 @@ pub fn place_all(table: &[u8], calls: &mut [u8]) -> Answer
         ≡ fronted (placing (now (table .entry)) (length (now (calls .entry))) .bytes)
         (now (calls .entry)) ⌝ }
 {
-    let answer = check(table);
-    if answer.number != 0 {
-        return answer;
+    let number = first_refusal(table);
+    if number != 0 {
+        return Answer {
+            number: number,
+            place: 0,
+        };
     }
-    let count = answer.place;
+    let count = call_count(table);
     if calls.len() < count {
         return Answer {
             number: 8,

@@ -2,6 +2,8 @@
 use mathlib.Core.Path.{sym, refl, _∙_}
 use denote.Ref.{now}
 use Rattle.search.specs.Contracts.{Settles, SettlesSeen}
+use Rattle.table.proofs.check.first_refusal.Kinds as first-refusal
+use Rattle.table.proofs.check.first_refusal.Reads as first-refusal-says
 use Rattle.table.proofs.check.check.Kinds as check
 use Rattle.table.proofs.check.check.Reads as check-says
 use Rattle.table.proofs.parts.byte.Kinds as byte
@@ -28,6 +30,10 @@ use Rattle.table.proofs.parts.input_sources.Kinds as input-sources
 use Rattle.table.proofs.parts.input_sources.Reads as input-sources-says
 use Rattle.table.proofs.parts.feed_pairs.Kinds as feed-pairs
 use Rattle.table.proofs.parts.feed_pairs.Reads as feed-pairs-says
+
+pub first-refusal-settled : Settles first-refusal.ps first-refusal.r first-refusal-says.Asked
+    first-refusal-says.Learnt
+first-refusal-settled = ((λ κs a. tt), (λ κs a x y w v p q. (p ∙ sym q, refl)))
 
 pub check-settled : Settles check.ps check.r check-says.Asked check-says.Learnt
 check-settled = ((λ κs a. tt), (λ κs a x y w v p q. (p ∙ sym q, refl)))

@@ -13,10 +13,14 @@ use Rattle.placing.proofs.Stage.{waiting-starts}
 fill-requires : tie.Need-fill-requires
 fill-requires c κs = search needs
 
+unit-count-requires : tie.Need-unit-count-requires
+unit-count-requires c κs = search needs
+
 find-ready-requires : tie.Need-find-ready-requires
 find-ready-requires c κs =
-    let start = c.before.before.before.before.before in (
-      omega (arith, start.pre.1.0, few-calls start.args.table.now start.pre.0),
+    let unit-count = c.before.unit-count in
+    let start = c.before.before.before.before.before.before in (
+      omega (arith, unit-count.ensures.0, few-calls start.args.table.now start.pre.0),
       (empty-words, empty-has),
     )
 
@@ -30,9 +34,11 @@ place-ready-requires : tie.Need-place-ready-requires
 place-ready-requires c κs =
     let note-joins = c.before.before.before.before.note-joins in
     let note-owners = c.before.before.before.before.before.before.note-owners in
-    let find-ready = c.before.before.before.before.before.before.before.before.find-ready in
-    let fill = c.before.before.before.before.before.before.before.before.before.before.before.fill in
-    let start = c.before.before.before.before.before.before.before.before.before.before.before.before.before.before in
+    let found = c.before.before.before.before.before.before.before.before in
+    let find-ready = found.find-ready in
+    let unit-count = found.before.before.unit-count in
+    let fill = found.before.before.before.before.fill in
+    let start = found.before.before.before.before.before.before.before in
     let args = start.args in
     let pre = start.pre in (
       pre.0,
@@ -43,7 +49,7 @@ place-ready-requires c κs =
           (
             note-joins.ensures,
             waiting-starts (shapeOf args.table.now) _ _ fill.ensures.0 fill.ensures.1
-                find-ready.ensures.0 (rw (← pre.1.0) find-ready.ensures.1),
+                find-ready.ensures.0 (rw (← unit-count.ensures.0) find-ready.ensures.1),
           ),
         ),
       ),
@@ -57,6 +63,7 @@ place-spec =
     tie.close
     (tie.spec
     fill-requires
+    unit-count-requires
     find-ready-requires
     note-owners-requires
     note-joins-requires

@@ -3,67 +3,62 @@ use borrow.Author.Needs.{needs}
 use Rattle.placing.proofs.place.place_all.Statement.{statement}
 use Rattle.placing.proofs.place.place_all.Tie as tie
 use native.Mathlib.Omega.{arith}
-use mathlib.Core.Path.{subst, _∙_}
+use mathlib.Core.Path.{sym, subst, _∙_}
 use lib.Dec.{T}
 use lib.ListN.{length}
 use Rattle.table.specs.Checked.{passed-sound, few-calls}
 use Rattle.orders.specs.Walk.{among}
 use Rattle.placing.specs.Placed.{placing-unsound, placing-short, placing-done}
-use Rattle.placing.specs.Placed.{placing-checked}
-use Rattle.placing.proofs.Passed.{passed, not-passed, passed-count}
 use Rattle.placing.proofs.Zeros.{zeros}
 use Rattle.placing.proofs.Threads.{stood, placed-known, placed-most}
 
-check-requires : tie.Need-check-requires
-check-requires c κs = search needs
+first-refusal-requires : tie.Need-first-refusal-requires
+first-refusal-requires c κs = search needs
 
 returns : tie.Need-returns
 returns c =
-    let check = c.before.before.check in
-    let args = c.before.before.before.before.before.args in
+    let first-refusal = c.before.first-refusal in
+    let args = c.before.before.before.before.args in
     let n = length args.calls.now in
-    let b = not-passed args.table.now _ check.ensures c.if1.taken in
-    (check.ensures ∙ placing-checked args.table.now n b, rw (placing-unsound args.table.now n b))
+    let s = placing-unsound args.table.now n (λ z. c.if1.taken (first-refusal.ensures ∙ z)) in
+    (rw (s, first-refusal.ensures), rw s)
+
+call-count-requires : tie.Need-call-count-requires
+call-count-requires c κs = search needs
 
 returns-2 : tie.Need-returns-2
 returns-2 c =
-    let if1 = c.before.if1 in
-    let check = c.before.before.before.check in
+    let call-count = c.before.call-count in
+    let if1 = c.before.before.if1 in
+    let first-refusal = c.before.before.before.first-refusal in
     let args = c.before.before.before.before.before.before.args in
-    let n = length args.calls.now in
-    let e = passed args.table.now _ check.ensures if1.left in
     let s =
-    placing-short args.table.now n e
-    (omega (arith, passed-count args.table.now _ check.ensures e, c.if2.taken)) in
+    placing-short args.table.now (length args.calls.now) (sym first-refusal.ensures ∙ if1.left)
+    (omega (arith, call-count.ensures, c.if2.taken)) in
     (rw s, rw s)
 
 place-requires : tie.Need-place-requires
 place-requires c κs =
-    let if1 = c.before.before.if1 in
-    let check = c.before.before.before.before.check in
-    let args = c.before.before.before.before.before.before.before.args in
-    let e = passed args.table.now _ check.ensures if1.left in (
-      passed-sound args.table.now e,
-      (passed-count args.table.now _ check.ensures e, (search needs, zeros 224)),
+    let call-count = c.before.before.call-count in
+    let if1 = c.before.before.before.if1 in
+    let first-refusal = c.before.before.before.before.first-refusal in
+    let args = c.before.before.before.before.before.before.before.args in (
+      passed-sound args.table.now (sym first-refusal.ensures ∙ if1.left),
+      (call-count.ensures, (search needs, zeros 224)),
     )
 
 write-back-requires : tie.Need-write-back-requires
 write-back-requires c κs =
     let place = c.before.before.place in
     let if2 = c.before.before.before.before.if2 in
-    let if1 = c.before.before.before.before.before.if1 in
-    let check = c.before.before.before.before.before.before.before.check in
+    let call-count = c.before.before.before.before.before.call-count in
+    let if1 = c.before.before.before.before.before.before.if1 in
+    let first-refusal = c.before.before.before.before.before.before.before.first-refusal in
     let args = c.before.before.before.before.before.before.before.before.before.before.args in
     let t = args.table.now in
-    let e = passed t _ check.ensures if1.left in
+    let e = sym first-refusal.ensures ∙ if1.left in
     let stand = stood t _ place.ensures.1.1 _ _ place.ensures.0 place.ensures.1.0 in (
-      omega (
-        arith,
-        place.ensures.0,
-        placed-most t,
-        passed-count t _ check.ensures e,
-        if2.left,
-      ),
+      omega (arith, place.ensures.0, placed-most t, call-count.ensures, if2.left),
       (λ x h. omega (
         arith,
         placed-known t x (subst (λ l. T (among l x)) stand h),
@@ -77,15 +72,17 @@ same-length c = search needs
 returns-3 : tie.Need-returns-3
 returns-3 c =
     let write-back = c.before.before.write-back in
-    let place = c.before.before.before.before.before.place in
-    let if2 = c.before.before.before.before.before.before.before.if2 in
-    let if1 = c.before.before.before.before.before.before.before.before.if1 in
-    let check = c.before.before.before.before.before.before.before.before.before.before.check in
-    let args = c.before.before.before.before.before.before.before.before.before.before.before.before.before.args in
+    let placed = c.before.before.before.before.before in
+    let place = placed.place in
+    let if2 = placed.before.before.if2 in
+    let call-count = placed.before.before.before.call-count in
+    let if1 = placed.before.before.before.before.if1 in
+    let first-refusal = placed.before.before.before.before.before.first-refusal in
+    let args = placed.before.before.before.before.before.before.before.before.args in
     let t = args.table.now in
-    let n = length args.calls.now in
-    let e = passed t _ check.ensures if1.left in
-    let s = placing-done t n e (omega (arith, passed-count t _ check.ensures e, if2.left)) in
+    let s =
+    placing-done t (length args.calls.now) (sym first-refusal.ensures ∙ if1.left)
+    (omega (arith, call-count.ensures, if2.left)) in
     let stand = stood t _ place.ensures.1.1 _ _ place.ensures.0 place.ensures.1.0 in
     (rw (s, place.ensures.0), write-back.ensures ∙ rw (stand, s))
 
@@ -93,8 +90,9 @@ pub place-all-spec : {M : Type 1} → statement M
 place-all-spec =
     tie.close
     (tie.spec
-    check-requires
+    first-refusal-requires
     returns
+    call-count-requires
     returns-2
     place-requires
     write-back-requires
