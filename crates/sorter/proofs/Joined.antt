@@ -4,21 +4,13 @@ use mathlib.Core.List.{List, []}
 use Prim.Native.Nat.{ℕ, _≤_, _<_}
 use native.Mathlib.Omega.{arith}
 use native.Mathlib.Decide.{ℕ-discrete}
-use lib.Dec.{eqb}
 use lib.ListN.{length}
-use Rattle.search.specs.Truth.{is-false, eq-false}
-use Rattle.table.specs.Check.{refusal, checked}
+use Rattle.table.specs.Check.{refusal}
 use Rattle.table.specs.Outcome.{outcome}
 use Rattle.placing.specs.Placing.{callCount, placedOf}
 use Rattle.placing.proofs.Threads.{placed-most}
 use Rattle.sorter.specs.Ordering.{shownOf, ordering}
 use Rattle.sorter.specs.Answers.{ordering-short, ordering-settled, settled-all, settled-some}
-
--- a refusal of the check is passed on
-pub refused-answer : (t : List ℕ) → (refusal t ≡ 0 → ⊥)
-    → checked t ≡ outcome (refusal t) 0 [] .answer
-unfolding checked
-refused-answer t n = rw (is-false (eqb (refusal t) 0) (eq-false (refusal t) 0 n))
 
 -- not all of them is fewer
 pub placed-early : (t : List ℕ) (k count : ℕ) → k ≡ length (placedOf t) → count ≡ callCount t

@@ -19,7 +19,8 @@ use crate::walk::walk_back;
 use placing::place::place;
 use placing::thread::write_back;
 use table::Answer;
-use table::check::check;
+use table::check::first_refusal;
+use table::parts::call_count;
 
 // Writes what was seen up to the call met again, from its lowest call on; gives its length.
 fn write_met(seen: &[u8], call: u8, count: u8, out: &mut [u8]) -> usize
@@ -80,11 +81,14 @@ pub fn order(table: &[u8], out: &mut [u8]) -> Answer
         ⌜ (Sound (now (table .entry)) → callCount (now (table .entry)) ≤ length (now (out .entry))
         → OrderOrCycle (now (table .entry)) r (take (r .place) (now (out .exit)))) ⌝ }
 {
-    let answer = check(table);
-    if answer.number != 0 {
-        return answer;
+    let number = first_refusal(table);
+    if number != 0 {
+        return Answer {
+            number: number,
+            place: 0,
+        };
     }
-    let count = answer.place;
+    let count = call_count(table);
     if out.len() < count {
         return Answer {
             number: 8,

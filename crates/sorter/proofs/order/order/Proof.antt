@@ -9,44 +9,45 @@ use lib.ListN.{length}
 use Rattle.search.specs.Front.{fronted}
 use Rattle.table.specs.Checked.{passed-sound, few-calls}
 use Rattle.orders.specs.Walk.{among}
-use Rattle.placing.proofs.Passed.{passed, not-passed, passed-count}
 use Rattle.placing.proofs.Threads.{stood, placed-known}
 use Rattle.placing.proofs.Zeros.{zeros}
 use Rattle.sorter.specs.Answers.{ordering-unsound}
 use Rattle.sorter.specs.Demand.{clauses}
-use Rattle.sorter.proofs.Joined.{refused-answer, placed-early}
-use Rattle.sorter.proofs.Joined.{order-short, order-all, order-cycle}
+use Rattle.sorter.proofs.Joined.{placed-early, order-short, order-all, order-cycle}
 
-check-requires : tie.Need-check-requires
-check-requires c κs = search needs
+first-refusal-requires : tie.Need-first-refusal-requires
+first-refusal-requires c κs = search needs
 
 returns : tie.Need-returns
 returns c =
-    let check = c.before.before.check in
-    let args = c.before.before.before.before.before.args in
-    let bad = not-passed args.table.now _ check.ensures c.if1.taken in
+    let first-refusal = c.before.first-refusal in
+    let args = c.before.before.before.before.args in
     clauses args.table.now args.out.now _ _ _
-    (ordering-unsound args.table.now (length args.out.now) bad)
-    (check.ensures ∙ refused-answer args.table.now bad) refl
+    (ordering-unsound args.table.now (length args.out.now)
+    (λ z. c.if1.taken (first-refusal.ensures ∙ z))) (rw first-refusal.ensures) refl
+
+call-count-requires : tie.Need-call-count-requires
+call-count-requires c κs = search needs
 
 returns-2 : tie.Need-returns-2
 returns-2 c =
-    let if1 = c.before.if1 in
-    let check = c.before.before.before.check in
+    let call-count = c.before.call-count in
+    let if1 = c.before.before.if1 in
+    let first-refusal = c.before.before.before.first-refusal in
     let args = c.before.before.before.before.before.before.args in
-    let sound = passed args.table.now _ check.ensures if1.left in
-    let count = passed-count args.table.now _ check.ensures sound in
+    let sound = sym first-refusal.ensures ∙ if1.left in
     clauses args.table.now args.out.now _ _ _
-    (order-short args.table.now (length args.out.now) _ sound count c.if2.taken) refl refl
+    (order-short args.table.now (length args.out.now) _ sound call-count.ensures c.if2.taken) refl
+    refl
 
 place-requires : tie.Need-place-requires
 place-requires c κs =
-    let if1 = c.before.before.if1 in
-    let check = c.before.before.before.before.check in
-    let args = c.before.before.before.before.before.before.before.args in
-    let sound = passed args.table.now _ check.ensures if1.left in (
-      passed-sound args.table.now sound,
-      (passed-count args.table.now _ check.ensures sound, (search needs, zeros 224)),
+    let call-count = c.before.before.call-count in
+    let if1 = c.before.before.before.if1 in
+    let first-refusal = c.before.before.before.before.first-refusal in
+    let args = c.before.before.before.before.before.before.before.args in (
+      passed-sound args.table.now (sym first-refusal.ensures ∙ if1.left),
+      (call-count.ensures, (search needs, zeros 224)),
     )
 
 write-back-requires : tie.Need-write-back-requires
@@ -54,11 +55,12 @@ write-back-requires c κs =
     let if3 = c.before.before.if3 in
     let place = c.before.before.before.place in
     let if2 = c.before.before.before.before.before.if2 in
-    let if1 = c.before.before.before.before.before.before.if1 in
-    let check = c.before.before.before.before.before.before.before.before.check in
+    let call-count = c.before.before.before.before.before.before.call-count in
+    let if1 = c.before.before.before.before.before.before.before.if1 in
+    let first-refusal = c.before.before.before.before.before.before.before.before.first-refusal in
     let args = c.before.before.before.before.before.before.before.before.before.before.before.args in
     let t = args.table.now in
-    let sound = passed t _ check.ensures if1.left in
+    let sound = sym first-refusal.ensures ∙ if1.left in
     let stand =
     stood t _ place.ensures.1.1 _ _ (sym if3.taken ∙ place.ensures.0) place.ensures.1.0 in (
       if2.left,
@@ -78,16 +80,16 @@ returns-3 c =
     let if3 = c.before.before.before.before.before.if3 in
     let place = c.before.before.before.before.before.before.place in
     let if2 = c.before.before.before.before.before.before.before.before.if2 in
-    let if1 = c.before.before.before.before.before.before.before.before.before.if1 in
-    let check = c.before.before.before.before.before.before.before.before.before.before.before.check in
+    let call-count = c.before.before.before.before.before.before.before.before.before.call-count in
+    let if1 = c.before.before.before.before.before.before.before.before.before.before.if1 in
+    let first-refusal = c.before.before.before.before.before.before.before.before.before.before.before.first-refusal in
     let args = c.before.before.before.before.before.before.before.before.before.before.before.before.before.before.args in
     let t = args.table.now in
-    let sound = passed t _ check.ensures if1.left in
-    let count = passed-count t _ check.ensures sound in
+    let sound = sym first-refusal.ensures ∙ if1.left in
     let all = sym if3.taken ∙ place.ensures.0 in
     let stand = stood t _ place.ensures.1.1 _ _ all place.ensures.1.0 in
     clauses t args.out.now _ _ _
-    (order-all t (length args.out.now) _ sound count if2.left (sym all)) refl
+    (order-all t (length args.out.now) _ sound call-count.ensures if2.left (sym all)) refl
     (write-back.ensures ∙ ap (λ l. fronted l args.out.now) stand)
 
 show-cycle-requires : tie.Need-show-cycle-requires
@@ -95,16 +97,18 @@ show-cycle-requires c κs =
     let if3 = c.before.before.if3 in
     let place = c.before.before.before.place in
     let if2 = c.before.before.before.before.before.if2 in
-    let if1 = c.before.before.before.before.before.before.if1 in
-    let check = c.before.before.before.before.before.before.before.before.check in
+    let call-count = c.before.before.before.before.before.before.call-count in
+    let if1 = c.before.before.before.before.before.before.before.if1 in
+    let first-refusal = c.before.before.before.before.before.before.before.before.first-refusal in
     let args = c.before.before.before.before.before.before.before.before.before.before.before.args in
     let t = args.table.now in
-    let sound = passed t _ check.ensures if1.left in
-    let count = passed-count t _ check.ensures sound in
+    let sound = sym first-refusal.ensures ∙ if1.left in
     let many = place.ensures.0 in
-    let early = placed-early t _ _ many count if3.left in
-    let stand = stood t _ place.ensures.1.1 _ _ many place.ensures.1.0 in
-    (passed-sound t sound, (count, (place.ensures.1.1.long, (early, (stand, if2.left)))))
+    let early = placed-early t _ _ many call-count.ensures if3.left in
+    let stand = stood t _ place.ensures.1.1 _ _ many place.ensures.1.0 in (
+      passed-sound t sound,
+      (call-count.ensures, (place.ensures.1.1.long, (early, (stand, if2.left)))),
+    )
 
 same-length-2 : tie.Need-same-length-2
 same-length-2 c = search needs
@@ -115,23 +119,24 @@ returns-4 c =
     let if3 = c.before.before.before.before.before.if3 in
     let place = c.before.before.before.before.before.before.place in
     let if2 = c.before.before.before.before.before.before.before.before.if2 in
-    let if1 = c.before.before.before.before.before.before.before.before.before.if1 in
-    let check = c.before.before.before.before.before.before.before.before.before.before.before.check in
+    let call-count = c.before.before.before.before.before.before.before.before.before.call-count in
+    let if1 = c.before.before.before.before.before.before.before.before.before.before.if1 in
+    let first-refusal = c.before.before.before.before.before.before.before.before.before.before.before.first-refusal in
     let args = c.before.before.before.before.before.before.before.before.before.before.before.before.before.before.args in
     let t = args.table.now in
-    let sound = passed t _ check.ensures if1.left in
-    let count = passed-count t _ check.ensures sound in
+    let sound = sym first-refusal.ensures ∙ if1.left in
     let cycle = show-cycle.ensures in
     clauses t args.out.now _ _ _
-    (order-cycle t (length args.out.now) _ sound count if2.left _ place.ensures.0 if3.left _
-    cycle.0) refl cycle.1
+    (order-cycle t (length args.out.now) _ sound call-count.ensures if2.left _ place.ensures.0
+    if3.left _ cycle.0) refl cycle.1
 
 pub order-spec : {M : Type 1} → statement M
 order-spec =
     tie.close
     (tie.spec
-    check-requires
+    first-refusal-requires
     returns
+    call-count-requires
     returns-2
     place-requires
     write-back-requires
