@@ -3,7 +3,6 @@ mod blocks;
 mod lower;
 pub mod place;
 mod release;
-mod sound;
 pub mod thread;
 mod waiting;
 

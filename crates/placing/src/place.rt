@@ -17,15 +17,6 @@ use crate::Placed;
 use crate::blocks::note;
 use crate::blocks::note_fed;
 use crate::release::release;
-use crate::sound::feed_count;
-use crate::sound::feed_pairs;
-use crate::sound::input_count;
-use crate::sound::input_kinds;
-use crate::sound::input_owners;
-use crate::sound::input_sources;
-use crate::sound::output_count;
-use crate::sound::output_owners;
-use crate::sound::unit_count;
 use crate::thread::write_back;
 use crate::waiting::raise_called;
 use crate::waiting::raise_fed;
@@ -34,6 +25,15 @@ use crate::waiting::raise_range;
 use table::Answer;
 use table::check::first_refusal;
 use table::parts::call_count;
+use table::sound::feed_count;
+use table::sound::feed_pairs;
+use table::sound::input_count;
+use table::sound::input_kinds;
+use table::sound::input_owners;
+use table::sound::input_sources;
+use table::sound::output_count;
+use table::sound::output_owners;
+use table::sound::unit_count;
 
 // How many direct predecessors each call has, counted rule by rule.
 fn fill(table: &[u8], waiting: &mut [u8; 224])

@@ -14,17 +14,17 @@ use crate::blocks::lower_feeds;
 use crate::blocks::lower_row;
 use crate::blocks::lower_rows;
 use crate::lower::lower;
-use crate::sound::feed_count;
-use crate::sound::feed_pairs;
-use crate::sound::input_count;
-use crate::sound::input_kinds;
-use crate::sound::input_owners;
-use crate::sound::input_sources;
-use crate::sound::output_count;
-use crate::sound::output_owners;
-use crate::sound::unit_count;
 use calls::Call;
 use calls::number::call_in;
+use table::sound::feed_count;
+use table::sound::feed_pairs;
+use table::sound::input_count;
+use table::sound::input_kinds;
+use table::sound::input_owners;
+use table::sound::input_sources;
+use table::sound::output_count;
+use table::sound::output_owners;
+use table::sound::unit_count;
 
 // A step releases the gets of its unit's outputs and the sets of its delayed inputs.
 fn release_step(

@@ -12,18 +12,19 @@ ghost use Rattle.orders.specs.Walk.{among, lowestBefore};
 ghost use Rattle.placing.specs.Placing.{callCount, placedOf};
 ghost use Rattle.sorter.specs.Lows.{LowSteps, LowGets};
 use calls::Call;
-use calls::number::call_of;
+use calls::number::call_in;
 use table::parts::byte;
-use table::parts::input_count;
-use table::parts::input_kinds;
-use table::parts::input_owners;
-use table::parts::input_sources;
-use table::parts::output_count;
-use table::parts::output_owners;
-use table::parts::unit_count;
+use table::sound::input_count;
+use table::sound::input_kinds;
+use table::sound::input_owners;
+use table::sound::input_sources;
+use table::sound::output_count;
+use table::sound::output_owners;
+use table::sound::unit_count;
 
 // The number of an input's set.
 fn set_of(table: &[u8], input: u8) -> usize
+    requires { ⌜ Sound (now table) ⌝ }
     ensures { λ r. ⌜ r ≡ setNo (shapeOf (now (table .entry))) input ⌝ }
 {
     unit_count(table) + output_count(table) + input as usize
@@ -93,7 +94,12 @@ pub fn lowest_before(table: &[u8], call: usize, steps: &[u8; 32], gets: &[u8; 96
         (precedes (shapeOf (now (table .entry))))
         (among (placedOf (now (table .entry)))) call ⌝ }
 {
-    let kind = call_of(table, call);
+    let kind = call_in(
+        unit_count(table),
+        output_count(table),
+        input_count(table),
+        call,
+    );
     match kind {
         Call::Step(unit) => set_of(table, steps[unit]),
         Call::Get(output) => before_get(table, output, steps, gets),

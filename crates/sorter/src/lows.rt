@@ -5,13 +5,13 @@ ghost use Rattle.table.specs.Sound.{Sound};
 ghost use Rattle.bits.specs.Bits.{has as hasBit};
 ghost use Rattle.sorter.specs.Lows.{LowSteps, LowGets};
 use bits::has;
-use table::parts::feed_count;
-use table::parts::feed_pairs;
-use table::parts::input_count;
-use table::parts::input_kinds;
-use table::parts::input_owners;
-use table::parts::output_count;
-use table::parts::unit_count;
+use table::sound::feed_count;
+use table::sound::feed_pairs;
+use table::sound::input_count;
+use table::sound::input_kinds;
+use table::sound::input_owners;
+use table::sound::output_count;
+use table::sound::unit_count;
 
 // For each unit the lowest of its reactive inputs whose set is not marked; X where there is none.
 pub fn low_steps(table: &[u8], marks: &[u64; 4], lows: &mut [u8; 32])

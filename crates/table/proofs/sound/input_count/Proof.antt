@@ -1,10 +1,10 @@
 -- The count is a byte of the table.
 use borrow.Author.Needs.{needs}
-use Rattle.placing.proofs.sound.unit_count.Statement.{statement}
-use Rattle.placing.proofs.sound.unit_count.Tie as tie
+use Rattle.table.proofs.sound.input_count.Statement.{statement}
+use Rattle.table.proofs.sound.input_count.Tie as tie
 use native.Mathlib.Omega.{arith}
 use mathlib.Core.Path.{refl}
-use Rattle.table.specs.Packed.{units}
+use Rattle.table.specs.Packed.{inputs}
 
 shared-slice-read-result : tie.Need-shared-slice-read-result
 shared-slice-read-result c =
@@ -12,14 +12,14 @@ shared-slice-read-result c =
     omega (arith, pre.four)
 
 cast-result : tie.Need-cast-result
-cast-result c = omega (arith, c.shared-slice-known.given 0)
+cast-result c = omega (arith, c.shared-slice-known.given 2)
 
 returns : tie.Need-returns
-unfolding units
-returns c = (refl, omega (arith, c.shared-slice-known.given 0))
+unfolding inputs
+returns c = (refl, omega (arith, c.shared-slice-known.given 2))
 
-pub unit-count-spec : {M : Type 1} → statement M
-unit-count-spec =
+pub input-count-spec : {M : Type 1} → statement M
+input-count-spec =
     tie.close
     (tie.spec
     shared-slice-read-result

@@ -1,10 +1,10 @@
 -- The count is a byte of the table.
 use borrow.Author.Needs.{needs}
-use Rattle.placing.proofs.sound.input_count.Statement.{statement}
-use Rattle.placing.proofs.sound.input_count.Tie as tie
+use Rattle.table.proofs.sound.feed_count.Statement.{statement}
+use Rattle.table.proofs.sound.feed_count.Tie as tie
 use native.Mathlib.Omega.{arith}
 use mathlib.Core.Path.{refl}
-use Rattle.table.specs.Packed.{inputs}
+use Rattle.table.specs.Packed.{feeds}
 
 shared-slice-read-result : tie.Need-shared-slice-read-result
 shared-slice-read-result c =
@@ -12,14 +12,14 @@ shared-slice-read-result c =
     omega (arith, pre.four)
 
 cast-result : tie.Need-cast-result
-cast-result c = omega (arith, c.shared-slice-known.given 2)
+cast-result c = omega (arith, c.shared-slice-known.given 3)
 
 returns : tie.Need-returns
-unfolding inputs
-returns c = (refl, omega (arith, c.shared-slice-known.given 2))
+unfolding feeds
+returns c = (refl, omega (arith, c.shared-slice-known.given 3))
 
-pub input-count-spec : {M : Type 1} → statement M
-input-count-spec =
+pub feed-count-spec : {M : Type 1} → statement M
+feed-count-spec =
     tie.close
     (tie.spec
     shared-slice-read-result

@@ -1,10 +1,10 @@
 -- A sound table has the length that its counts ask.
 use borrow.Author.Needs.{needs}
-use Rattle.placing.proofs.sound.output_owners.Statement.{statement}
-use Rattle.placing.proofs.sound.output_owners.Tie as tie
+use Rattle.table.proofs.sound.output_owners.Statement.{statement}
+use Rattle.table.proofs.sound.output_owners.Tie as tie
 use native.Mathlib.Omega.{arith}
 use native.Mathlib.Nat.{add-sub-cancel-left}
 use Rattle.table.specs.Packed.{outputOwners, asked}
 
 output-count-requires : tie.Need-output-count-requires
 output-count-requires c κs = search needs

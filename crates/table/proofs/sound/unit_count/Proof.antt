@@ -1,10 +1,10 @@
 -- The count is a byte of the table.
 use borrow.Author.Needs.{needs}
-use Rattle.placing.proofs.sound.feed_count.Statement.{statement}
-use Rattle.placing.proofs.sound.feed_count.Tie as tie
+use Rattle.table.proofs.sound.unit_count.Statement.{statement}
+use Rattle.table.proofs.sound.unit_count.Tie as tie
 use native.Mathlib.Omega.{arith}
 use mathlib.Core.Path.{refl}
-use Rattle.table.specs.Packed.{feeds}
+use Rattle.table.specs.Packed.{units}
 
 shared-slice-read-result : tie.Need-shared-slice-read-result
 shared-slice-read-result c =
@@ -12,14 +12,14 @@ shared-slice-read-result c =
     omega (arith, pre.four)
 
 cast-result : tie.Need-cast-result
-cast-result c = omega (arith, c.shared-slice-known.given 3)
+cast-result c = omega (arith, c.shared-slice-known.given 0)
 
 returns : tie.Need-returns
-unfolding feeds
-returns c = (refl, omega (arith, c.shared-slice-known.given 3))
+unfolding units
+returns c = (refl, omega (arith, c.shared-slice-known.given 0))
 
-pub feed-count-spec : {M : Type 1} → statement M
-feed-count-spec =
+pub unit-count-spec : {M : Type 1} → statement M
+unit-count-spec =
     tie.close
     (tie.spec
     shared-slice-read-result

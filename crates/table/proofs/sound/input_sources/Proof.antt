@@ -1,10 +1,10 @@
 -- A sound table has the length that its counts ask.
 use borrow.Author.Needs.{needs}
-use Rattle.placing.proofs.sound.input_kinds.Statement.{statement}
-use Rattle.placing.proofs.sound.input_kinds.Tie as tie
+use Rattle.table.proofs.sound.input_sources.Statement.{statement}
+use Rattle.table.proofs.sound.input_sources.Tie as tie
 use native.Mathlib.Omega.{arith}
 use native.Mathlib.Nat.{add-sub-cancel-left}
-use Rattle.table.specs.Packed.{kinds, asked}
+use Rattle.table.specs.Packed.{sources, asked}
 
 input-count-requires : tie.Need-input-count-requires
 input-count-requires c κs = search needs
@@ -14,6 +14,9 @@ output-count-requires c κs = search needs
 
 add-a : tie.Need-add-a
 add-a c = search needs
+
+mul-a : tie.Need-mul-a
+mul-a c = search needs
 
 add-a-2 : tie.Need-add-a-2
 add-a-2 c = search needs
@@ -35,19 +38,20 @@ part-result-end c =
     omega (arith, pre.long, c.output-count.ensures.0, input-count.ensures.0)
 
 returns : tie.Need-returns
-unfolding kinds
+unfolding sources
 returns c =
     let output-count = c.before.output-count in
     let input-count = c.before.before.input-count in
     rw (add-sub-cancel-left, ← output-count.ensures.0, ← input-count.ensures.0)
 
-pub input-kinds-spec : {M : Type 1} → statement M
-input-kinds-spec =
+pub input-sources-spec : {M : Type 1} → statement M
+input-sources-spec =
     tie.close
     (tie.spec
     input-count-requires
     output-count-requires
     add-a
+    mul-a
     add-a-2
     add-result
     sub-result

@@ -1,13 +1,10 @@
 -- A sound table has the length that its counts ask.
 use borrow.Author.Needs.{needs}
-use Rattle.placing.proofs.sound.input_sources.Statement.{statement}
-use Rattle.placing.proofs.sound.input_sources.Tie as tie
+use Rattle.table.proofs.sound.feed_pairs.Statement.{statement}
+use Rattle.table.proofs.sound.feed_pairs.Tie as tie
 use native.Mathlib.Omega.{arith}
 use native.Mathlib.Nat.{add-sub-cancel-left}
-use Rattle.table.specs.Packed.{sources, asked}
-
-input-count-requires : tie.Need-input-count-requires
-input-count-requires c κs = search needs
+use Rattle.table.specs.Packed.{pairs, asked}
 
 output-count-requires : tie.Need-output-count-requires
 output-count-requires c κs = search needs
@@ -15,11 +12,20 @@ output-count-requires c κs = search needs
 add-a : tie.Need-add-a
 add-a c = search needs
 
+input-count-requires : tie.Need-input-count-requires
+input-count-requires c κs = search needs
+
 mul-a : tie.Need-mul-a
 mul-a c = search needs
 
 add-a-2 : tie.Need-add-a-2
 add-a-2 c = search needs
+
+feed-count-requires : tie.Need-feed-count-requires
+feed-count-requires c κs = search needs
+
+mul-n : tie.Need-mul-n
+mul-n c = search needs
 
 add-result : tie.Need-add-result
 add-result c = search needs
@@ -34,25 +40,29 @@ part-result-end : tie.Need-part-result-end
 unfolding asked
 part-result-end c =
     let input-count = c.before.input-count in
-    let pre = c.before.before.before.pre in
-    omega (arith, pre.long, c.output-count.ensures.0, input-count.ensures.0)
+    let output-count = c.before.before.output-count in
+    let pre = c.before.before.before.before.pre in
+    omega (arith, pre.long, c.feed-count.ensures.0, input-count.ensures.0, output-count.ensures.0)
 
 returns : tie.Need-returns
-unfolding sources
+unfolding pairs
 returns c =
-    let output-count = c.before.output-count in
+    let feed-count = c.before.feed-count in
     let input-count = c.before.before.input-count in
-    rw (add-sub-cancel-left, ← output-count.ensures.0, ← input-count.ensures.0)
+    let output-count = c.before.before.before.output-count in
+    rw (add-sub-cancel-left, ← feed-count.ensures.0, ← input-count.ensures.0, ← output-count.ensures.0)
 
-pub input-sources-spec : {M : Type 1} → statement M
-input-sources-spec =
+pub feed-pairs-spec : {M : Type 1} → statement M
+feed-pairs-spec =
     tie.close
     (tie.spec
-    input-count-requires
     output-count-requires
     add-a
+    input-count-requires
     mul-a
     add-a-2
+    feed-count-requires
+    mul-n
     add-result
     sub-result
     part-result-start

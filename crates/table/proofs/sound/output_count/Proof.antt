@@ -1,10 +1,10 @@
 -- The count is a byte of the table.
 use borrow.Author.Needs.{needs}
-use Rattle.placing.proofs.sound.output_count.Statement.{statement}
-use Rattle.placing.proofs.sound.output_count.Tie as tie
+use Rattle.table.proofs.sound.output_count.Statement.{statement}
+use Rattle.table.proofs.sound.output_count.Tie as tie
 use native.Mathlib.Omega.{arith}
 use mathlib.Core.Path.{refl}
 use Rattle.table.specs.Packed.{outputs}
 
 shared-slice-read-result : tie.Need-shared-slice-read-result
 shared-slice-read-result c =
