@@ -33,6 +33,11 @@ module _ (q : ℕ → Bool) (at : ℕ → ℕ) where
   unfolding hits count
   hits-on n c t = rw (add-one, is-true (q n) t) (omega arith)
 
+  -- one more place, whether or not it passes
+  pub hits-next : (n c : ℕ) → hits q at (n + 1) c ≡ hits q at n c + bit (q n && eqb (at n) c)
+  unfolding hits count
+  hits-next n c = rw add-one (omega arith)
+
   pub hits-other : (n c : ℕ) → at n ≢ c → hits q at (n + 1) c ≡ hits q at n c
   unfolding hits count bit
   hits-other n c ne = rw (add-one, is-false (eqb (at n) c) (eq-false (at n) c ne)) (go (q n))
@@ -68,6 +73,18 @@ module _ (keys : List ℕ) (key : ℕ) (others : List ℕ) (other i : ℕ) where
       go true q t = t
       go false q t = tt
 
+-- where a test passes that has room, the count is not 0
+pub pass-some : (p : Bool) (call : ℕ) (w : List ℕ) → T p
+    → ((c : ℕ) → bit (p && eqb call c) ≤ getD w c 0) → 0 < getD w call 0
+unfolding bit
+pass-some p call w t enough =
+    go p (eqb call call) t (eqb-refl call) (enough call)
+  where
+    go : (a b : Bool) → T a → T b → bit (a && b) ≤ getD w call 0 → 0 < getD w call 0
+    go true true s u h = omega arith
+    go true false s u h = absurd u
+    go false b s u h = absurd s
+
 -- ---- a loop that lowers one count for each that passes
 
 pub less-none : (q : ℕ → Bool) (at : ℕ → ℕ) (w : List ℕ) → Less (hits q at 0) w w
@@ -93,6 +110,19 @@ module _ (q : ℕ → Bool) (at : ℕ → ℕ) (k : ℕ) where
         enough (at k),
         hits-hit q at k (at k) t refl,
         hits-more q at (k + 1) n (at k) (omega arith),
+      )
+
+  -- what place k takes is still there
+  pub lower-room : (n : ℕ) (high low : List ℕ) → k < n
+      → ((c : ℕ) → hits q at n c ≤ getD high c 0) → Less (hits q at k) high low
+      → (c : ℕ) → bit (q k && eqb (at k) c) ≤ getD low c 0
+  lower-room n high low h enough l c =
+      omega (
+        arith,
+        l .less c,
+        enough c,
+        hits-next q at k c,
+        hits-more q at (k + 1) n c (omega arith),
       )
 
   pub lower-hit : (n : ℕ) (high low : List ℕ) → k < n → T (q k) → at k < length high

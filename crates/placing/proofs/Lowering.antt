@@ -15,7 +15,7 @@ use Rattle.bits.specs.Bits.{has, put, Words}
 use Rattle.bits.specs.Laws.{put-has, put-words}
 use Rattle.placing.specs.Less.{hits, Less}
 use Rattle.placing.specs.Lowered.{once, Lowered}
-use Rattle.placing.proofs.Hits.{hits-none, hits-on, hits-miss}
+use Rattle.placing.proofs.Hits.{hits-none, hits-next, hits-on, hits-miss}
 
 -- what stays as it is frees nothing
 unchanged : (p q : Bool) → p ≡ (p || (q && not q))
@@ -153,6 +153,18 @@ module _ (w ws : List ℕ) (call : ℕ) (h : call < length w) (some : 0 < getD w
     ];
   }
 
+-- ---- one call less where a test passes, else nothing
+pub lowered-pass : (p : Bool) (call : ℕ) (high low before after : List ℕ) → T p
+    → Lowered (once call) high low before after
+    → Lowered (λ c. bit (p && eqb call c)) high low before after
+lowered-pass p call high low before after t = rw (is-true p t) (λ l. l)
+
+pub lowered-fail : (p : Bool) (call : ℕ) (w ws : List ℕ) → T (not p) → Words ws
+    → Lowered (λ c. bit (p && eqb call c)) w w ws ws
+unfolding bit
+lowered-fail p call w ws t =
+    lowered-none (λ c. bit (p && eqb call c)) w ws (λ c. rw (is-false p t) refl)
+
 -- ---- a loop that lowers one count for each that passes
 module _ (q : ℕ → Bool) (at : ℕ → ℕ) where
   pub lowers-none : (w ws : List ℕ) → Words ws → Lowered (hits q at 0) w w ws ws
@@ -172,6 +184,15 @@ module _ (q : ℕ → Bool) (at : ℕ → ℕ) where
   lowers-miss k high low before after t =
       lowered-as (hits q at k) (hits q at (k + 1)) high low before after
       (λ c. sym (hits-miss q at k c t))
+
+  -- place k, whether or not it passes
+  pub lowers-next : (k : ℕ) (high middle low before between after : List ℕ)
+      → Lowered (hits q at k) high middle before between
+      → Lowered (λ c. bit (q k && eqb (at k) c)) middle low between after
+      → Lowered (hits q at (k + 1)) high low before after
+  lowers-next k high middle low before between after =
+      lowered-both (hits q at k) (λ c. bit (q k && eqb (at k) c)) (hits q at (k + 1)) high middle
+      low before between after (hits-next q at k)
 
   -- the loop is over
   pub lowers-all : (n k : ℕ) (high low before after : List ℕ) → k ≤ n → n ≤ k

@@ -1,7 +1,10 @@
 // Loops over a stretch of a part that lower waiting counts; a call that then waits for none is ready.
 ghost use mathlib.Core.Path.{_≡_};
+ghost use mathlib.Core.Bool.{_&&_};
 ghost use Prim.Native.Nat.{ℕ, _+_, _*_, _≤_, _<_};
+ghost use lib.Dec.{eqb};
 ghost use lib.ListN.{length, getD};
+ghost use Rattle.search.specs.Count.{bit};
 ghost use Rattle.bits.specs.Bits.{Words};
 ghost use Rattle.placing.specs.Less.{isKey, areKeys, isInput, nth, fed, hits};
 ghost use Rattle.placing.specs.Lowered.{once, Lowered};
@@ -81,6 +84,32 @@ pub fn lower_both(
     }
 }
 
+// One less at the get of the output of pair `k`, where that pair is of the input.
+fn lower_pair(
+    pairs: &[u8],
+    k: usize,
+    input: u8,
+    first: usize,
+    waiting: &mut [u8; 224],
+    ready: &mut [u64; 4],
+)
+    requires { ⌜ length (now waiting) ≡ 224 ⌝ }
+    requires { ⌜ Words (now ready) ⌝ }
+    requires { ⌜ 2 * k + 1 < length (now pairs) ⌝ }
+    requires { ⌜ fed (now pairs) first k < 224 ⌝ }
+    requires { ⌜ ((c : ℕ) → bit (isInput (now pairs) input k && eqb (fed (now pairs) first k) c)
+        ≤ getD (now waiting) c 0) ⌝ }
+    ensures { λ r. ⌜ Lowered
+        (λ c. bit (isInput (now (pairs .entry)) input k
+        && eqb (fed (now (pairs .entry)) first k) c))
+        (now (waiting .entry)) (now (waiting .exit)) (now (ready .entry)) (now (ready .exit)) ⌝ }
+{
+    if pairs[2 * k] == input {
+        let output = pairs[2 * k + 1] as usize;
+        lower(first + output, waiting, ready);
+    }
+}
+
 // One less at the get of each output that the input feeds, of `count` feeds; gets begin at `first`.
 pub fn lower_fed(
     pairs: &[u8],
@@ -101,11 +130,12 @@ pub fn lower_fed(
         (now (waiting .entry)) (now (waiting .exit)) (now (ready .entry)) (now (ready .exit)) ⌝ }
 {
     let mut k = 0;
-    while k < count {
-        if pairs[2 * k] == input {
-            let output = pairs[2 * k + 1] as usize;
-            lower(first + output, waiting, ready);
-        }
-        k += 1;
+    while k + 1 < count {
+        lower_pair(pairs, k, input, first, waiting, ready);
+        lower_pair(pairs, k + 1, input, first, waiting, ready);
+        k += 2;
+    }
+    if k < count {
+        lower_pair(pairs, k, input, first, waiting, ready);
     }
 }
