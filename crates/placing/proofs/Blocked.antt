@@ -91,7 +91,8 @@ module _ (q : ℕ → Bool) (at : ℕ → ℕ) (n : ℕ) where
       → Lowered (hits q at (reach from n)) high low before after
       → Lowered (hits q at (reach (from + size) n)) high low before after
   blocks-miss from size left high low before after w z =
-      lowered-as (hits q at (reach from n)) (hits q at (reach (from + size) n)) high low before after
+      lowered-as (hits q at (reach from n)) (hits q at (reach (from + size) n)) high low before
+      after
       (λ c. sym (hits-gap q at (reach from n) (reach (from + size) n) c (omega arith)
       (λ i a b. within-miss q n from left size w z i (omega arith) (omega arith) (omega arith))))
 
@@ -181,22 +182,28 @@ module _ (keys : List ℕ) (key : ℕ) (others : List ℕ) (other first from a z
 
   pub rows-room : (high low before after : List ℕ)
       → ((c : ℕ) → hits (areKeys keys key others other) (nth first) (length keys) c ≤ getD high c 0)
-      → Lowered (hits (areKeys keys key others other) (nth first) (reach from (length keys))) high low before after
+      → Lowered (hits (areKeys keys key others other) (nth first) (reach from (length keys))) high
+      low before after
       → (c : ℕ) → hits (areKeys one key two other) (nth (first + a)) (length one) c ≤ getD low c 0
   rows-room high low before after enough l =
-      stretch-room (areKeys keys key others other) (areKeys one key two other) (nth first) (nth (first + a)) a z (length one)
+      stretch-room (areKeys keys key others other) (areKeys one key two other) (nth first)
+      (nth (first + a)) a z (length one)
       (omega arith) rows-long rows-key rows-call (length keys) high low before after (omega arith)
       enough (rw e l)
 
   pub rows-on : (high middle low before between after : List ℕ)
-      → Lowered (hits (areKeys keys key others other) (nth first) (reach from (length keys))) high middle before
+      → Lowered (hits (areKeys keys key others other) (nth first) (reach from (length keys))) high
+      middle before
       between
-      → Lowered (hits (areKeys one key two other) (nth (first + a)) (length one)) middle low between after
-      → Lowered (hits (areKeys keys key others other) (nth first) (reach (from + 24) (length keys))) high low
+      → Lowered (hits (areKeys one key two other) (nth (first + a)) (length one)) middle low between
+      after
+      → Lowered (hits (areKeys keys key others other) (nth first) (reach (from + 24) (length keys)))
+      high low
       before after
   rows-on high middle low before between after l m =
       rw (← f)
-      (stretch-on (areKeys keys key others other) (areKeys one key two other) (nth first) (nth (first + a)) a z (length one)
+      (stretch-on (areKeys keys key others other) (areKeys one key two other) (nth first)
+      (nth (first + a)) a z (length one)
       (omega arith) rows-long rows-key rows-call high middle low before between after (rw e l) m)
 
 module _ (pairs : List ℕ) (count input first from a z : ℕ) (e : a ≡ reach from count)

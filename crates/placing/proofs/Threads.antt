@@ -131,7 +131,8 @@ module _ (bytes l : List ℕ) (fresh : Fresh l)
   threaded (suc n) h =
       let c = getD l n 0 in
       let e = take-suc l n 0 (omega arith) in
-      let last : lastOf 255 (take (suc n) l) ≡ c = ap (lastOf 255) e ∙ lastOf-end 255 (take n l) c in
+      let last : lastOf 255 (take (suc n) l) ≡ c =
+      ap (lastOf 255) e ∙ lastOf-end 255 (take n l) c in
       let back : getD bytes c 0 ≡ lastOf 255 (take n l) =
       thread c (among-at l n (omega arith)) ∙ prior-at 255 l fresh n (omega arith) in
       rw (last, back, threaded n (omega arith)) (sym e)

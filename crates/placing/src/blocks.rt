@@ -110,7 +110,8 @@ pub fn lower_rows(
     requires { ⌜ Words (now ready) ⌝ }
     requires { ⌜ length (now others) ≡ length (now keys) ⌝ }
     requires { ⌜ blocks < 16 ⌝ }
-    requires { ⌜ Within (areKeys (now keys) key (now others) other) 24 (length (now keys)) blocks 0 ⌝ }
+    requires { ⌜ Within (areKeys (now keys) key (now others) other) 24 (length (now keys))
+        blocks 0 ⌝ }
     requires { ⌜ first + length (now keys) ≤ 224 ⌝ }
     requires { ⌜ ((c : ℕ) → hits (areKeys (now keys) key (now others) other) (nth first)
         (length (now keys)) c

@@ -1,4 +1,4 @@
-// Loops over a stretch of a part that lower waiting counts; a call that then waits for none is ready.
+// Loops over a part that lower waiting counts; a call that then waits for none is ready.
 ghost use mathlib.Core.Path.{_≡_};
 ghost use mathlib.Core.Bool.{_&&_};
 ghost use Prim.Native.Nat.{ℕ, _+_, _*_, _≤_, _<_};

@@ -1,4 +1,4 @@
--- What is placed has all its direct predecessors placed; so a step remains where a set before it does.
+-- What is placed has all before it placed; so a step remains where a set before it does.
 use mathlib.Core.Path.{_≡_, refl, sym, subst, _∙_, fun-ext}
 use mathlib.Core.Logic.{inl, inr}
 use mathlib.Core.Bool.{Bool, true, false, not, _||_}

@@ -80,7 +80,8 @@ pub fn left_over(
         ⌜ LowSteps (now (table .entry)) (among (placedOf (now (table .entry))))
         (now (steps .exit)) ⌝ }
     ensures { λ r.
-        ⌜ LowGets (now (table .entry)) (among (placedOf (now (table .entry)))) (now (gets .exit)) ⌝ }
+        ⌜ LowGets (now (table .entry)) (among (placedOf (now (table .entry))))
+        (now (gets .exit)) ⌝ }
 {
     let mut marks: [u64; 4] = [0; 4];
     mark(bytes, last, placed, &mut marks);

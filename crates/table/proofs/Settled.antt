@@ -104,38 +104,38 @@ pub feed-pairs-settled : SettlesSeen feed-pairs.ps feed-pairs.r feed-pairs-says.
     feed-pairs-says.Learnt (λ κs r. now r)
 feed-pairs-settled = ((λ κs a. tt), (λ κs a x y w v p q. (p ∙ sym q, refl)))
 
-pub sound-unit-count-settled : SettlesWhere sound-unit-count.ps sound-unit-count.r sound-unit-count-says.Asked
-    sound-unit-count-says.Learnt (λ κs r. r)
+pub sound-unit-count-settled : SettlesWhere sound-unit-count.ps sound-unit-count.r
+    sound-unit-count-says.Asked sound-unit-count-says.Learnt (λ κs r. r)
 sound-unit-count-settled κs a h x y w v p q = (p .0 ∙ sym (q .0), refl)
 
-pub sound-output-count-settled : SettlesWhere sound-output-count.ps sound-output-count.r sound-output-count-says.Asked
-    sound-output-count-says.Learnt (λ κs r. r)
+pub sound-output-count-settled : SettlesWhere sound-output-count.ps sound-output-count.r
+    sound-output-count-says.Asked sound-output-count-says.Learnt (λ κs r. r)
 sound-output-count-settled κs a h x y w v p q = (p .0 ∙ sym (q .0), refl)
 
-pub sound-input-count-settled : SettlesWhere sound-input-count.ps sound-input-count.r sound-input-count-says.Asked
-    sound-input-count-says.Learnt (λ κs r. r)
+pub sound-input-count-settled : SettlesWhere sound-input-count.ps sound-input-count.r
+    sound-input-count-says.Asked sound-input-count-says.Learnt (λ κs r. r)
 sound-input-count-settled κs a h x y w v p q = (p .0 ∙ sym (q .0), refl)
 
-pub sound-feed-count-settled : SettlesWhere sound-feed-count.ps sound-feed-count.r sound-feed-count-says.Asked
-    sound-feed-count-says.Learnt (λ κs r. r)
+pub sound-feed-count-settled : SettlesWhere sound-feed-count.ps sound-feed-count.r
+    sound-feed-count-says.Asked sound-feed-count-says.Learnt (λ κs r. r)
 sound-feed-count-settled κs a h x y w v p q = (p .0 ∙ sym (q .0), refl)
 
-pub sound-output-owners-settled : SettlesWhere sound-output-owners.ps sound-output-owners.r sound-output-owners-says.Asked
-    sound-output-owners-says.Learnt (λ κs r. now r)
+pub sound-output-owners-settled : SettlesWhere sound-output-owners.ps sound-output-owners.r
+    sound-output-owners-says.Asked sound-output-owners-says.Learnt (λ κs r. now r)
 sound-output-owners-settled κs a h x y w v p q = (p ∙ sym q, refl)
 
-pub sound-input-owners-settled : SettlesWhere sound-input-owners.ps sound-input-owners.r sound-input-owners-says.Asked
-    sound-input-owners-says.Learnt (λ κs r. now r)
+pub sound-input-owners-settled : SettlesWhere sound-input-owners.ps sound-input-owners.r
+    sound-input-owners-says.Asked sound-input-owners-says.Learnt (λ κs r. now r)
 sound-input-owners-settled κs a h x y w v p q = (p ∙ sym q, refl)
 
-pub sound-input-kinds-settled : SettlesWhere sound-input-kinds.ps sound-input-kinds.r sound-input-kinds-says.Asked
-    sound-input-kinds-says.Learnt (λ κs r. now r)
+pub sound-input-kinds-settled : SettlesWhere sound-input-kinds.ps sound-input-kinds.r
+    sound-input-kinds-says.Asked sound-input-kinds-says.Learnt (λ κs r. now r)
 sound-input-kinds-settled κs a h x y w v p q = (p ∙ sym q, refl)
 
-pub sound-input-sources-settled : SettlesWhere sound-input-sources.ps sound-input-sources.r sound-input-sources-says.Asked
-    sound-input-sources-says.Learnt (λ κs r. now r)
+pub sound-input-sources-settled : SettlesWhere sound-input-sources.ps sound-input-sources.r
+    sound-input-sources-says.Asked sound-input-sources-says.Learnt (λ κs r. now r)
 sound-input-sources-settled κs a h x y w v p q = (p ∙ sym q, refl)
 
-pub sound-feed-pairs-settled : SettlesWhere sound-feed-pairs.ps sound-feed-pairs.r sound-feed-pairs-says.Asked
-    sound-feed-pairs-says.Learnt (λ κs r. now r)
+pub sound-feed-pairs-settled : SettlesWhere sound-feed-pairs.ps sound-feed-pairs.r
+    sound-feed-pairs-says.Asked sound-feed-pairs-says.Learnt (λ κs r. now r)
 sound-feed-pairs-settled κs a h x y w v p q = (p ∙ sym q, refl)

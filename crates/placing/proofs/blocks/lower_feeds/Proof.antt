@@ -1,4 +1,4 @@
--- A block that is noted is lowered as a part of its own; one that is not holds no feed of the input.
+-- A block that is noted is lowered as a part of its own; another holds no feed of the input.
 use borrow.Author.Needs.{needs}
 use Rattle.placing.proofs.blocks.lower_feeds.Statement.{statement}
 use Rattle.placing.proofs.blocks.lower_feeds.Tie as tie

@@ -91,8 +91,8 @@ returns : tie.Need-returns Inv-loop μ-loop
 returns c =
     let loop = c.before.loop in
     let args = c.before.before.args in
-    noting-all (pairInput args.pairs.now) 32 0 args.count loop.k args.notes.now loop.notes loop.inv.0
-    c.loop-test.left loop.inv.1
+    noting-all (pairInput args.pairs.now) 32 0 args.count loop.k args.notes.now loop.notes
+    loop.inv.0 c.loop-test.left loop.inv.1
 
 pub note-fed-spec : {M : Type 1} → statement M
 note-fed-spec =

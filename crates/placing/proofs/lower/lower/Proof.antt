@@ -24,16 +24,16 @@ returns c =
     let args = start.args in
     let pre = start.pre in
     rw c.put.ensures
-    (lower-frees args.waiting.now args.ready.now args.call (omega (arith, pre.0, pre.1.1.0)) pre.1.1.1
-    pre.1.0 (omega (arith, pre.1.1.0)) if1.taken)
+    (lower-frees args.waiting.now args.ready.now args.call (omega (arith, pre.0, pre.1.1.0))
+    pre.1.1.1 pre.1.0 (omega (arith, pre.1.1.0)) if1.taken)
 
 returns-2 : tie.Need-returns-2
 returns-2 c =
     let start = c.before.before in
     let args = start.args in
     let pre = start.pre in
-    lower-waits args.waiting.now args.ready.now args.call (omega (arith, pre.0, pre.1.1.0)) pre.1.1.1
-    pre.1.0 c.if1.left
+    lower-waits args.waiting.now args.ready.now args.call (omega (arith, pre.0, pre.1.1.0))
+    pre.1.1.1 pre.1.0 c.if1.left
 
 pub lower-spec : {M : Type 1} → statement M
 lower-spec =

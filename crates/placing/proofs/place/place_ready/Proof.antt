@@ -1,4 +1,4 @@
--- The calls placed are the front of `placedOf`; `stage-on` carries the loop, `stage-stands` ends it.
+-- What is placed is the front of `placedOf`; `stage-on` carries the loop, `stage-stands` ends it.
 use borrow.Author.Needs.{needs}
 use Rattle.placing.proofs.place.place_ready.Statement.{statement}
 use Rattle.placing.proofs.place.place_ready.Tie as tie
@@ -21,7 +21,8 @@ use Rattle.placing.proofs.Stage.{stage-front, stage-stands, stage-long,
 
 abbrev Inv-loop : tie.InvT-loop
 Inv-loop table count own mask waiting₀ ready₀ last₀ k₀ waiting ready last k =
-    (length (take k (placedOf table)) ≡ k) × Stage table (take k (placedOf table)) waiting ready last
+    (length (take k (placedOf table)) ≡ k)
+    × Stage table (take k (placedOf table)) waiting ready last
 
 abbrev μ-loop : tie.MeasureT-loop
 μ-loop table count own mask waiting₀ ready₀ last₀ k₀ waiting ready last k = count - k

@@ -17,7 +17,8 @@ shared-slice-read-if1 c =
     let input-kinds = c.before.input-kinds in
     let start = c.before.before.before in
     let pre = start.pre in
-    omega (arith, pre.1.0, ap length input-kinds.ensures, long-kinds start.args.table.now pre.0.long)
+    let n = ap length input-kinds.ensures ∙ long-kinds start.args.table.now pre.0.long in
+    omega (arith, pre.1.0, n)
 
 input-owners-requires : tie.Need-input-owners-requires
 input-owners-requires c κs = search needs
@@ -36,7 +37,8 @@ cast-lower c =
     let start = c.before.before.before.before.before.before in
     let args = start.args in
     let o = ap (λ l. getD l args.input 0) input-owners.ensures in
-    record { fits = omega (arith, own-fits args.table.now start.pre.0 args.input _ start.pre.1.0 o) }
+    let small = own-fits args.table.now start.pre.0 args.input _ start.pre.1.0 o in
+    record { fits = omega (arith, small) }
 
 lower-requires : tie.Need-lower-requires
 lower-requires c κs =

@@ -29,7 +29,8 @@ step-left-requires c κs =
     let o = c.byte.ensures.0 ∙ ap (λ l. getD l args.output 0) output-owners.ensures in (
       pre.0,
       (
-        subst (λ u. u < units args.table.now) (sym o) (pre.0.wired.output-owned args.output pre.1.0),
+        subst (λ u. u < units args.table.now) (sym o)
+            (pre.0.wired.output-owned args.output pre.1.0),
         (pre.1.1.0, pre.1.1.1.0),
       ),
     )

@@ -48,7 +48,8 @@ part-write-met-end c = search needs
 cast-write-met : tie.Need-cast-write-met
 cast-write-met c =
     let walk-back = c.before.before.before.walk-back in
-    let start = c.before.before.before.before.before.before.before.before.before.before.before.before.before in
+    let far = c.before.before.before.before.before.before.before.before in
+    let start = far.before.before.before.before.before in
     let args = start.args in
     let pre = start.pre in
     record {
@@ -61,13 +62,15 @@ cast-write-met c =
 
 cast-write-met-2 : tie.Need-cast-write-met-2
 cast-write-met-2 c =
-    let start = c.before.before.before.before.before.before.before.before.before.before.before.before.before in
+    let far = c.before.before.before.before.before.before.before.before in
+    let start = far.before.before.before.before.before in
     record { fits = omega (arith, start.pre.1.0, few-calls start.args.table.now start.pre.0) }
 
 write-met-requires : tie.Need-write-met-requires
 write-met-requires c κs =
     let walk-back = c.before.before.before.before.walk-back in
-    let start = c.before.before.before.before.before.before.before.before.before.before.before.before.before.before in
+    let far = c.before.before.before.before.before.before.before.before in
+    let start = far.before.before.before.before.before.before in
     let args = start.args in
     let pre = start.pre in
     let rest = path-rest args.table.now _ _ _ walk-back.ensures in (
@@ -92,7 +95,8 @@ returns : tie.Need-returns
 returns c =
     let write-met = c.before.before.write-met in
     let walk-back = c.before.before.before.before.before.before.before.walk-back in
-    let start = c.before.before.before.before.before.before.before.before.before.before.before.before.before.before.before.before.before in
+    let far = c.before.before.before.before.before.before.before.before in
+    let start = far.before.before.before.before.before.before.before.before.before in
     let args = start.args in
     let pre = start.pre in
     let shown = met-shown args.table.now _ _ _ walk-back.ensures _ pre.1.0 in (

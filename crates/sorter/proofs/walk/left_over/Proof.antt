@@ -14,7 +14,8 @@ mark-requires c κs =
     let start = c.before.before in
     let args = start.args in
     let pre = start.pre in
-    (empty-words, (empty-has, placed-below args.table.now _ pre.1.1.0 (few-calls args.table.now pre.0)))
+    let few = few-calls args.table.now pre.0 in
+    (empty-words, (empty-has, placed-below args.table.now _ pre.1.1.0 few))
 
 low-steps-requires : tie.Need-low-steps-requires
 low-steps-requires c κs = search needs

@@ -50,7 +50,12 @@ returns c =
     let feed-count = c.before.feed-count in
     let input-count = c.before.before.input-count in
     let output-count = c.before.before.before.output-count in
-    rw (add-sub-cancel-left, ← feed-count.ensures.0, ← input-count.ensures.0, ← output-count.ensures.0)
+    rw (
+      add-sub-cancel-left,
+      ← feed-count.ensures.0,
+      ← input-count.ensures.0,
+      ← output-count.ensures.0,
+    )
 
 pub feed-pairs-spec : {M : Type 1} → statement M
 feed-pairs-spec =
