@@ -12,7 +12,7 @@ use Rattle.search.specs.Count.{bit, bit-le, count, count-le, count-same, count-
 use Rattle.table.specs.Shape.{Shape, total, Wired}
 use Rattle.calls.specs.Number.{getNo, setNo}
 use Rattle.calls.specs.Precedence.{Precedes, step-get, get-set, set-get}
-use Rattle.calls.specs.Precedence.{set-step, step-set, precedes}
+use Rattle.calls.specs.Precedence.{set-step, step-set}
 use Rattle.calls.specs.Neighbours.{precedes-iff, calls-only}
 use Rattle.calls.specs.Hits.{nth, hits}
 use Rattle.calls.specs.Given.{only, stepsToGets, stepsToSets, into, ownStep}
