@@ -12,8 +12,9 @@ use lib.Seq.{getD-take, getD-drop, length-take-le}
 use Rattle.search.specs.Truth.{is-false}
 use Rattle.search.specs.Count.{bit, count, count-same}
 use Rattle.bits.specs.Bits.{Words}
+use Rattle.calls.specs.Hits.{nth, hits}
 use Rattle.placing.specs.Blocks.{Within}
-use Rattle.placing.specs.Less.{isKey, areKeys, isInput, nth, fed, hits}
+use Rattle.placing.specs.Less.{isKey, areKeys, isInput, fed}
 use Rattle.placing.specs.Lowered.{Lowered}
 use Rattle.placing.proofs.Hits.{hits-more}
 use Rattle.placing.proofs.Lowering.{lowered-as, lowered-both, lowers-none}

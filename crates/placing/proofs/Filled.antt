@@ -8,9 +8,10 @@ use Rattle.search.specs.Sets.{none}
 use Rattle.table.specs.Packed.{units, outputs, inputs, feeds, inputOwners, kinds, pairs, shapeOf}
 use Rattle.table.specs.Sound.{Sound}
 use Rattle.table.specs.Layout.{long-kinds}
-use Rattle.placing.specs.Less.{each, isKey, nth, called, fed, hits}
-use Rattle.placing.specs.Waiting.{into}
-use Rattle.placing.proofs.Parts.{hits-same}
+use Rattle.calls.specs.Hits.{nth, hits}
+use Rattle.calls.specs.Given.{into}
+use Rattle.calls.specs.Givens.{hits-same}
+use Rattle.placing.specs.Less.{each, isKey, called, fed}
 
 module _ (t : List ℕ) (ok : Sound t) where
   pub filled : (gets sets outputs′ inputs′ feeds′ : ℕ) (kinds′ owners′ pairs′ : List ℕ)

@@ -13,12 +13,13 @@ use Rattle.table.specs.Sound.{Sound}
 use Rattle.table.specs.Checked.{few-calls}
 use Rattle.table.specs.Layout.{long-output-owners, long-input-owners, long-sources}
 use Rattle.calls.specs.Number.{getNo, setNo}
-use Rattle.placing.specs.Less.{isKey, areKeys, isInput, nth, fed, hits}
-use Rattle.placing.specs.Waiting.{only, stepsToGets, stepsToSets, into, ownStep}
+use Rattle.calls.specs.Hits.{nth, hits}
+use Rattle.calls.specs.Given.{only, stepsToGets, stepsToSets, into, ownStep}
+use Rattle.calls.specs.Givens.{into-step, into-get, into-set}
+use Rattle.placing.specs.Less.{isKey, areKeys, isInput, fed}
 use Rattle.placing.specs.Blocks.{Block, Within, Owned, Joined}
 use Rattle.placing.specs.Lowered.{once}
 use Rattle.placing.proofs.Noted.{within-low, within-high}
-use Rattle.placing.proofs.Into.{into-step, into-get, into-set}
 
 module _ (t : List ℕ) (ok : Sound t) where
   -- the last call stands before the end of the counts

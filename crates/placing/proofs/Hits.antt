@@ -12,7 +12,8 @@ use lib.ListN.{length, getD, set, length-set}
 use lib.Seq.{getD-set-same, getD-set-other}
 use Rattle.search.specs.Truth.{and-T, is-true, is-false, eq-true, eq-false}
 use Rattle.search.specs.Count.{bit, count}
-use Rattle.placing.specs.Less.{isKey, areKeys, hits, Less}
+use Rattle.calls.specs.Hits.{hits}
+use Rattle.placing.specs.Less.{isKey, areKeys, Less}
 
 module _ (q : ℕ → Bool) (at : ℕ → ℕ) where
   pub hits-none : (c : ℕ) → hits q at 0 c ≡ 0

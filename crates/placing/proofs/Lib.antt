@@ -2,9 +2,7 @@
 pub mod Hits
 pub mod Lowering
 pub mod Noted
-pub mod Parts
 pub mod Blocked
-pub mod Into
 pub mod Gives
 pub mod Threads
 pub mod Stage

@@ -13,7 +13,8 @@ use Rattle.search.specs.Truth.{is-true, is-false, eq-true, eq-false}
 use Rattle.search.specs.Count.{bit}
 use Rattle.bits.specs.Bits.{has, put, Words}
 use Rattle.bits.specs.Laws.{put-has, put-words}
-use Rattle.placing.specs.Less.{hits, Less}
+use Rattle.calls.specs.Hits.{hits}
+use Rattle.placing.specs.Less.{Less}
 use Rattle.placing.specs.Lowered.{once, Lowered}
 use Rattle.placing.proofs.Hits.{hits-none, hits-next, hits-on, hits-miss}
 

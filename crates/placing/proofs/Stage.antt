@@ -24,14 +24,15 @@ use Rattle.calls.specs.Number.{getNo}
 use Rattle.calls.specs.Numbers.{View, at-step, at-get, at-set, view}
 use Rattle.calls.specs.Precedence.{step-get, get-set, precedes}
 use Rattle.calls.specs.Neighbours.{precedes-iff, calls-only, not-self}
+use Rattle.calls.specs.Given.{only, into}
+use Rattle.calls.specs.Givens.{into-part, into-none, none-into, into-past}
 use Rattle.orders.specs.Sort.{ready, nextCall, sort, placed}
 use Rattle.orders.specs.Sorted.{Ready→ready, ready→Ready, next-is, sort-step, sort-stop, sort-none}
 use Rattle.orders.specs.Walk.{among}
-use Rattle.placing.specs.Waiting.{only, into, waits, Waiting}
+use Rattle.placing.specs.Waiting.{waits, Waiting}
 use Rattle.placing.specs.Lowered.{Lowered}
 use Rattle.placing.specs.Placing.{callCount, placedOf}
 use Rattle.placing.specs.Thread.{lastOf, prior, stands, Standing}
-use Rattle.placing.proofs.Into.{into-part, into-none, none-into, into-past}
 use Rattle.placing.proofs.Threads.{among-end, lastOf-end, prior-end, prior-more}
 
 -- ---- a count of 0 says that the call is ready

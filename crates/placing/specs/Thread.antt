@@ -7,8 +7,8 @@ use lib.Dec.{eqb}
 use lib.ListN.{length, getD}
 use Rattle.table.specs.Shape.{Shape}
 use Rattle.table.specs.Packed.{shapeOf}
+use Rattle.calls.specs.Given.{into}
 use Rattle.orders.specs.Walk.{among}
-use Rattle.placing.specs.Waiting.{into}
 use Rattle.placing.specs.Placing.{placedOf}
 
 -- the last call of a list; p where there is none

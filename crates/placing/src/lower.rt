@@ -6,7 +6,8 @@ ghost use lib.Dec.{eqb};
 ghost use lib.ListN.{length, getD};
 ghost use Rattle.search.specs.Count.{bit};
 ghost use Rattle.bits.specs.Bits.{Words};
-ghost use Rattle.placing.specs.Less.{isKey, areKeys, isInput, nth, fed, hits};
+ghost use Rattle.calls.specs.Hits.{nth, hits};
+ghost use Rattle.placing.specs.Less.{isKey, areKeys, isInput, fed};
 ghost use Rattle.placing.specs.Lowered.{once, Lowered};
 
 // One less at a call; ready where it then waits for none.

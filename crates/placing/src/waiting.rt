@@ -2,7 +2,8 @@
 ghost use mathlib.Core.Path.{_≡_};
 ghost use Prim.Native.Nat.{ℕ, _+_, _*_, _≤_, _<_};
 ghost use lib.ListN.{length, getD};
-ghost use Rattle.placing.specs.Less.{each, isKey, nth, called, fed, hits, Less};
+ghost use Rattle.calls.specs.Hits.{nth, hits};
+ghost use Rattle.placing.specs.Less.{each, isKey, called, fed, Less};
 
 // One more at each of `count` calls from `first` on.
 pub fn raise_range(first: usize, count: usize, waiting: &mut [u8; 224])

@@ -1,5 +1,6 @@
 -- A block that is noted is lowered as a part of its own; another holds no feed of the input.
 use borrow.Author.Needs.{needs}
+use Rattle.calls.specs.Hits.{hits}
 use Rattle.placing.proofs.blocks.lower_feeds.Statement.{statement}
 use Rattle.placing.proofs.blocks.lower_feeds.Tie as tie
 use native.Mathlib.Omega.{arith}
@@ -7,7 +8,7 @@ use mathlib.Core.Path.{_∙_}
 use mathlib.Core.Logic.{⊎-elim}
 use Prim.Native.Nat.{_+_, _*_, _≤_}
 use Rattle.placing.specs.Blocks.{Within}
-use Rattle.placing.specs.Less.{isInput, fed, hits}
+use Rattle.placing.specs.Less.{isInput, fed}
 use Rattle.placing.specs.Lowered.{Lowered}
 use Rattle.placing.proofs.Noted.{within-half}
 use Rattle.placing.proofs.Blocked.{reach, feeds-long, feeds-fit, feeds-room, feeds-on}

@@ -1,5 +1,6 @@
 -- A block that is noted is lowered as a part of its own; one that is not holds no key.
 use borrow.Author.Needs.{needs}
+use Rattle.calls.specs.Hits.{nth, hits}
 use Rattle.placing.proofs.blocks.lower_rows.Statement.{statement}
 use Rattle.placing.proofs.blocks.lower_rows.Tie as tie
 use native.Mathlib.Omega.{arith}
@@ -8,7 +9,7 @@ use mathlib.Core.Logic.{⊎-elim}
 use Prim.Native.Nat.{_+_, _*_, _≤_}
 use lib.ListN.{length}
 use Rattle.placing.specs.Blocks.{Within}
-use Rattle.placing.specs.Less.{areKeys, nth, hits}
+use Rattle.placing.specs.Less.{areKeys}
 use Rattle.placing.specs.Lowered.{Lowered}
 use Rattle.placing.proofs.Noted.{within-half}
 use Rattle.placing.proofs.Blocked.{reach, rows-fits, rows-alike, rows-room, rows-on}

@@ -1,5 +1,6 @@
 -- A turn lowers one count or none: `lowers-hit` and `lowers-miss` carry the loop.
 use borrow.Author.Needs.{needs}
+use Rattle.calls.specs.Hits.{nth, hits}
 use Rattle.placing.proofs.lower.lower_both.Statement.{statement}
 use Rattle.placing.proofs.lower.lower_both.Tie as tie
 use native.Mathlib.Omega.{arith}
@@ -7,7 +8,7 @@ use mathlib.Core.Path.{_∙_}
 use mathlib.Core.Logic.{⊎-elim}
 use Prim.Native.Nat.{_-_, _≤_}
 use lib.ListN.{length}
-use Rattle.placing.specs.Less.{areKeys, nth, hits}
+use Rattle.placing.specs.Less.{areKeys}
 use Rattle.placing.specs.Lowered.{Lowered}
 use Rattle.placing.proofs.Hits.{both-keys, first-other, second-other, lower-some}
 use Rattle.placing.proofs.Lowering.{lowers-none, lowers-hit, lowers-miss, lowers-all}

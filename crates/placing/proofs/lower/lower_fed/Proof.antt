@@ -1,11 +1,12 @@
 -- A call of `lower_pair` carries the loop one place on (`lowers-next`), two a turn.
 use borrow.Author.Needs.{needs}
+use Rattle.calls.specs.Hits.{hits}
 use Rattle.placing.proofs.lower.lower_fed.Statement.{statement}
 use Rattle.placing.proofs.lower.lower_fed.Tie as tie
 use native.Mathlib.Omega.{arith}
 use mathlib.Core.Path.{_∙_}
 use Prim.Native.Nat.{_+_, _-_, _≤_}
-use Rattle.placing.specs.Less.{isInput, fed, hits}
+use Rattle.placing.specs.Less.{isInput, fed}
 use Rattle.placing.specs.Lowered.{Lowered}
 use Rattle.placing.proofs.Hits.{lower-room}
 use Rattle.placing.proofs.Lowering.{lowers-none, lowers-next, lowers-all}

@@ -1,5 +1,6 @@
 -- A turn lowers one count or none: `lowers-hit` and `lowers-miss` carry the loop.
 use borrow.Author.Needs.{needs}
+use Rattle.calls.specs.Hits.{nth, hits}
 use Rattle.placing.proofs.lower.lower_keyed.Statement.{statement}
 use Rattle.placing.proofs.lower.lower_keyed.Tie as tie
 use native.Mathlib.Omega.{arith}
@@ -8,7 +9,7 @@ use mathlib.Core.Logic.{⊎-elim}
 use Prim.Native.Nat.{_-_, _≤_}
 use lib.ListN.{length}
 use Rattle.search.specs.Truth.{eq-true, eq-false}
-use Rattle.placing.specs.Less.{isKey, nth, hits}
+use Rattle.placing.specs.Less.{isKey}
 use Rattle.placing.specs.Lowered.{Lowered}
 use Rattle.placing.proofs.Hits.{lower-some}
 use Rattle.placing.proofs.Lowering.{lowers-none, lowers-hit, lowers-miss, lowers-all}

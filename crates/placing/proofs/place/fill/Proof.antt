@@ -1,5 +1,6 @@
 -- Five rules raise the counts from 0; their sum is `into` of every call (`filled`).
 use borrow.Author.Needs.{needs}
+use Rattle.calls.specs.Givens.{row-once, hits-le}
 use Rattle.placing.proofs.place.fill.Statement.{statement}
 use Rattle.placing.proofs.place.fill.Tie as tie
 use native.Mathlib.Omega.{arith}
@@ -8,7 +9,6 @@ use Prim.Native.Nat.{_+_}
 use lib.ListN.{length}
 use Rattle.table.specs.Layout.{long-kinds, long-input-owners, long-pairs}
 use Rattle.placing.specs.Less.{each, isKey, called, fed}
-use Rattle.placing.proofs.Parts.{row-once, hits-le}
 use Rattle.placing.proofs.Gives.{fits, fed-fits}
 use Rattle.placing.proofs.Filled.{filled}
 

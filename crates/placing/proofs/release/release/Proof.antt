@@ -1,12 +1,12 @@
 -- The call told apart has the number that was placed.
 use borrow.Author.Needs.{needs}
+use Rattle.calls.specs.Given.{only, into}
 use Rattle.placing.proofs.release.release.Statement.{statement}
 use Rattle.placing.proofs.release.release.Tie as tie
 use mathlib.Core.Path.{sym, subst, _∙_}
 use lib.ListN.{getD}
 use Prim.Native.Nat.{ℕ, _≤_}
 use Rattle.table.specs.Packed.{shapeOf}
-use Rattle.placing.specs.Waiting.{only, into}
 use Rattle.placing.proofs.Told.{told-as, told-step, told-get, told-set, told-none}
 
 unit-count-requires : tie.Need-unit-count-requires
