@@ -146,21 +146,6 @@ module _ (s : Shape) where
       and-bit e p q r h = rw (and-comm e p, and-comm e q, and-comm e r) (bit-and e p q r h)
 
   module _ (passes : ℕ → Bool) where
-    -- a row gives each call one at most, the feeds and the reactive inputs as many as there are
-    pub into-le : (c : ℕ) → into s passes c ≤ 3 + s .feeds + s .inputs
-    unfolding into
-    into-le c =
-        omega (
-          arith,
-          row-once (λ y. passes (s .outputOwner y)) (s .units) (s .outputs) c,
-          row-once (λ x. passes (getNo s (s .source x))) (s .units + s .outputs) (s .inputs) c,
-          hits-le (λ k. getNo s (s .feedOutput k)) (s .feeds) c
-              (λ k. passes (setNo s (s .feedInput k))),
-          hits-le (s .inputOwner) (s .inputs) c (λ x. eqb (s .kind x) 1 && passes (setNo s x)),
-          row-once (λ x. passes (s .inputOwner x) && eqb (s .kind x) 0) (s .units + s .outputs)
-              (s .inputs) c,
-        )
-
     -- a count of 0 leaves no direct predecessor that passes
     pub into-none : (c : ℕ) → into s passes c ≡ 0 → (a : ℕ) → Precedes s a c → T (passes a) → ⊥
     unfolding into

@@ -126,26 +126,6 @@ module _ (q : ℕ → Bool) (at : ℕ → ℕ) (k : ℕ) where
         hits-more q at (k + 1) n c (omega arith),
       )
 
-  pub lower-hit : (n : ℕ) (high low : List ℕ) → k < n → T (q k) → at k < length high
-      → ((c : ℕ) → hits q at n c ≤ getD high c 0) → Less (hits q at k) high low
-      → Less (hits q at (k + 1)) high (set low (at k) (getD low (at k) 0 - 1))
-  lower-hit n high low h t i enough l = record {
-    long = length-set low (at k) (getD low (at k) 0 - 1) ∙ l .long;
-    less = λ c. elim (ℕ-discrete c (at k)) [
-      | yes e ↦
-          rw (e, getD-set-same low (at k) (getD low (at k) 0 - 1) 0 (omega (arith, l .long)))
-          (omega (
-            arith,
-            l .less (at k),
-            hits-hit q at k (at k) t refl,
-            lower-some n high low h t enough l,
-          ))
-      | no ne ↦
-          rw (getD-set-other low (at k) c (getD low (at k) 0 - 1) 0 ne)
-          (omega (arith, l .less c, hits-other q at k c (λ e. ne (sym e))))
-    ];
-  }
-
   -- ---- a loop that raises one count for each that passes
   pub raise-room : (n : ℕ) (high low : List ℕ) → k < n → T (q k)
       → ((c : ℕ) → getD low c 0 + hits q at n c ≤ 255) → Less (hits q at k) high low

@@ -11,5 +11,4 @@ pub mod Found
 pub mod Marked
 pub mod Zeros
 pub mod Told
-pub mod Passed
 pub mod Settled

@@ -1,7 +1,6 @@
 -- Each public function's contract permits one answer, with every lent byte, where it is met.
 use mathlib.Core.Path.{ap, ap₂, sym, refl, _∙_}
 use Prim.Native.Nat.{ℕ}
-use lib.Seq.{ext-getD}
 use Rattle.search.specs.Contracts.{Settles, SettlesWhere}
 use Rattle.placing.specs.declared.Placed.{Placed}
 use Rattle.placing.proofs.Threads.{standing-one}

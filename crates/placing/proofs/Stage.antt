@@ -5,14 +5,14 @@ use mathlib.Core.Bool.{Bool, true, false, not, _&&_, _||_, and-false}
 use mathlib.Core.List.{List, [], _∷_, _++_, append-assoc, append-nil}
 use Prim.Native.Nat.{ℕ, suc, _+_, _-_, _≤_, _<_}
 use native.Mathlib.Omega.{arith}
-use native.Mathlib.Decide.{ℕ-discrete, decLt}
+use native.Mathlib.Decide.{decLt}
 use lib.Dec.{T, eqb, ltb, eqb→eq, nltb→le}
 use lib.ListN.{length, getD, set, take, length-set, length-append}
 use lib.Seq.{getD-set-same, getD-set-other, take-at}
 use borrow.Author.Tests.{lt-ltb, le-ltb, ne-eqb}
-use Rattle.search.specs.Truth.{T-and, and-T, either, clash, is-true, is-false, eq-true, eq-false}
+use Rattle.search.specs.Truth.{either, clash, is-true, is-false, eq-true, eq-false}
 use Rattle.search.specs.Truth.{same-test}
-use Rattle.search.specs.Sets.{none, add, add-self, add-other, add-cases, add-more, add-not}
+use Rattle.search.specs.Sets.{none, add, add-self, add-cases, add-more, add-not}
 use Rattle.search.specs.Least.{leastFrom, lowest-is, lowest-one}
 use Rattle.bits.specs.Bits.{has, drop, Words, without}
 use Rattle.bits.specs.Laws.{drop-has}
@@ -27,7 +27,7 @@ use Rattle.calls.specs.Neighbours.{precedes-iff, calls-only, not-self}
 use Rattle.calls.specs.Given.{only, into}
 use Rattle.calls.specs.Givens.{into-part, into-none, none-into, into-past}
 use Rattle.orders.specs.Sort.{ready, nextCall, sort, placed}
-use Rattle.orders.specs.Sorted.{Ready→ready, ready→Ready, next-is, sort-step, sort-stop, sort-none}
+use Rattle.orders.specs.Sorted.{Ready→ready, ready→Ready, next-is, sort-step}
 use Rattle.orders.specs.Walk.{among}
 use Rattle.placing.specs.Waiting.{waits, Waiting}
 use Rattle.placing.specs.Lowered.{Lowered}

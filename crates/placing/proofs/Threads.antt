@@ -1,6 +1,6 @@
 -- Laws of the order threaded through bytes: one call more, and the thread followed back.
 use mathlib.Core.Path.{_≡_, refl, sym, ap, ap₂, subst, _∙_, fun-ext}
-use mathlib.Core.Logic.{_≢_, inl, inr}
+use mathlib.Core.Logic.{inl, inr}
 use mathlib.Core.Bool.{Bool, true, false, not, _||_}
 use mathlib.Core.List.{List, [], _∷_, _++_, append-assoc, append-nil}
 use Prim.Native.Nat.{ℕ, zero, suc, _+_, _-_, _≤_, _<_}
@@ -10,13 +10,11 @@ use native.Mathlib.Decide.{decLt}
 use lib.Dec.{T, eqb, eqb→eq, eqb-refl, not-T}
 use lib.ListN.{length, getD, set, take, drop, length-append, take-append-drop}
 use lib.ListN.{length-set}
-use lib.Seq.{take-suc, take-length, take-set-le, drop-cons, drop-set-lt, getD-set-same, ext-getD}
-use Rattle.search.specs.Truth.{T-or, or-left, or-right, clash, is-true, is-false, eq-false}
+use lib.Seq.{take-suc, take-length, drop-cons, drop-set-lt, getD-set-same, ext-getD}
+use Rattle.search.specs.Truth.{T-or, clash, is-true, is-false, eq-false}
 use Rattle.search.specs.Sets.{none, add, add-self, add-more, add-not}
 use Rattle.search.specs.Front.{fronted}
 use Rattle.table.specs.Packed.{shapeOf}
-use Rattle.table.specs.Sound.{Sound}
-use Rattle.table.specs.Checked.{few-calls}
 use Rattle.calls.specs.Precedence.{precedes}
 use Rattle.orders.specs.Sort.{nextCall, sort, placed}
 use Rattle.orders.specs.Sorted.{next-is, sort-step, sort-stop, sort-none}

@@ -201,7 +201,3 @@ module _ (s : Shape) (done : ℕ → Bool) (x : ℕ) where
       → getNo s (s .source x) ≡ sourceLeft s done x
   unfolding sourceLeft
   source-stays z = rw (is-false (done (getNo s (s .source x))) z)
-
-  pub source-done : T (done (getNo s (s .source x))) → total s ≡ sourceLeft s done x
-  unfolding sourceLeft
-  source-done z = rw (is-true (done (getNo s (s .source x))) z)

@@ -1,5 +1,5 @@
 -- What is placed has all before it placed; so a step remains where a set before it does.
-use mathlib.Core.Path.{_≡_, refl, sym, subst, _∙_, fun-ext}
+use mathlib.Core.Path.{_≡_, refl, subst, _∙_, fun-ext}
 use mathlib.Core.Logic.{inl, inr}
 use mathlib.Core.Bool.{Bool, true, false, not, _||_}
 use mathlib.Core.List.{List}
@@ -9,11 +9,11 @@ use native.Mathlib.Decide.{decLt}
 use lib.Dec.{T, eqb, ltb}
 use lib.ListN.{length, getD}
 use borrow.Author.Tests.{lt-ltb, le-ltb}
-use Rattle.search.specs.Truth.{T-and, and-T, T-or, or-left, or-right, either, clash}
+use Rattle.search.specs.Truth.{T-and, and-T, either, clash}
 use Rattle.search.specs.Truth.{is-true, is-false}
 use Rattle.search.specs.Sets.{none, add, add-cases, add-more}
 use Rattle.search.specs.Least.{leastFrom, Lowest, lowest-is}
-use Rattle.table.specs.Shape.{Shape, total, Wired}
+use Rattle.table.specs.Shape.{Shape}
 use Rattle.table.specs.Packed.{inputs, units, shapeOf}
 use Rattle.table.specs.Sound.{Sound}
 use Rattle.calls.specs.Number.{getNo, setNo}
@@ -26,7 +26,7 @@ use Rattle.orders.specs.Walk.{among, lowestBefore}
 use Rattle.orders.specs.Walked.{Stuck}
 use Rattle.orders.specs.Remains.{placed-stuck}
 use Rattle.placing.specs.Placing.{callCount, placedOf}
-use Rattle.sorter.specs.Marks.{keepsStep, sourceLeft}
+use Rattle.sorter.specs.Marks.{keepsStep}
 use Rattle.sorter.specs.Lows.{LowSteps}
 use Rattle.sorter.proofs.Before.{set-source, source-stays}
 

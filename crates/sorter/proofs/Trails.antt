@@ -222,10 +222,3 @@ unfolding lowestLeft
 left-is t marks n c e m f =
     f ∙ ap (λ k. leastFrom (λ a. not (has marks a)) k 0) e
     ∙ ap (λ (q : ℕ → Bool). leastFrom (λ a. not (q a)) (callCount t) 0) m
-
--- and goes on to the lowest direct predecessor that is not marked
-pub before-is : (t marks : List ℕ) (c a : ℕ) → has marks ≡ among (placedOf t)
-    → a ≡ lowestBefore (callCount t) (precedes (shapeOf t)) (has marks) c
-    → a ≡ lowestBefore (callCount t) (precedes (shapeOf t)) (among (placedOf t)) c
-before-is t marks c a m e =
-    e ∙ ap (λ (q : ℕ → Bool). lowestBefore (callCount t) (precedes (shapeOf t)) q c) m

@@ -4,7 +4,7 @@ use Rattle.placing.proofs.blocks.note.Statement.{statement}
 use Rattle.placing.proofs.blocks.note.Tie as tie
 use native.Mathlib.Omega.{arith}
 use mathlib.Core.Logic.{⊎-elim}
-use Prim.Native.Nat.{_+_, _-_, _≤_, _<_}
+use Prim.Native.Nat.{_-_, _≤_, _<_}
 use lib.ListN.{length}
 use Rattle.placing.specs.Blocks.{Noting}
 use Rattle.placing.specs.Less.{called}

@@ -3,8 +3,8 @@ use borrow.Author.Needs.{needs}
 use Rattle.placing.proofs.place.note_owners.Statement.{statement}
 use Rattle.placing.proofs.place.note_owners.Tie as tie
 use native.Mathlib.Omega.{arith}
-use mathlib.Core.Path.{ap, subst, _∙_}
-use lib.ListN.{length, getD}
+use mathlib.Core.Path.{ap, _∙_}
+use lib.ListN.{length}
 use Rattle.table.specs.Layout.{long-output-owners, long-input-owners}
 use Rattle.placing.proofs.Marked.{owned}
 

@@ -3,8 +3,6 @@ use borrow.Author.Needs.{needs}
 use Rattle.placing.proofs.place.place.Statement.{statement}
 use Rattle.placing.proofs.place.place.Tie as tie
 use native.Mathlib.Omega.{arith}
-use mathlib.Core.Path.{subst, sym, _∙_}
-use lib.ListN.{length-replicate}
 use Rattle.table.specs.Packed.{shapeOf}
 use Rattle.table.specs.Checked.{few-calls}
 use Rattle.bits.specs.Laws.{empty-words, empty-has}

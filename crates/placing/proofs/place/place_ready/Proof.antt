@@ -3,16 +3,14 @@ use borrow.Author.Needs.{needs}
 use Rattle.placing.proofs.place.place_ready.Statement.{statement}
 use Rattle.placing.proofs.place.place_ready.Tie as tie
 use native.Mathlib.Omega.{arith}
-use mathlib.Core.Path.{_≡_, refl, ap, sym, subst, _∙_}
+use mathlib.Core.Path.{_≡_, refl, ap, sym, _∙_}
 use mathlib.Core.List.{[], _∷_, _++_}
-use Prim.Native.Nat.{_+_, _-_, _≤_, _<_}
-use native.Mathlib.Numerals.{add-one}
+use Prim.Native.Nat.{_+_, _-_, _<_}
 use lib.ListN.{length, take, length-append}
 use Rattle.table.specs.Packed.{shapeOf}
 use Rattle.table.specs.Checked.{few-calls}
 use Rattle.bits.specs.Laws.{drop-words}
 use Rattle.calls.specs.Precedence.{precedes}
-use Rattle.orders.specs.Sort.{sort}
 use Rattle.orders.specs.Sorted.{sort-stop, sort-none}
 use Rattle.orders.specs.Walk.{among}
 use Rattle.placing.specs.Placing.{callCount, placedOf}

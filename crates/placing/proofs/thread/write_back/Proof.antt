@@ -3,7 +3,6 @@ use borrow.Author.Needs.{needs}
 use Rattle.placing.proofs.thread.write_back.Statement.{statement}
 use Rattle.placing.proofs.thread.write_back.Tie as tie
 use native.Mathlib.Omega.{arith}
-use lib.ListN.{length}
 use Rattle.placing.proofs.Threads.{Backing, backing-starts, backing-call, backing-on}
 use Rattle.placing.proofs.Threads.{backing-ends}
 

@@ -2,7 +2,6 @@
 use borrow.Author.Needs.{needs}
 use Rattle.sorter.proofs.back.before_set.Statement.{statement}
 use Rattle.sorter.proofs.back.before_set.Tie as tie
-use native.Mathlib.Omega.{arith}
 use mathlib.Core.Path.{sym, ap, ap₂, subst, _∙_}
 use mathlib.Core.Logic.{⊎-elim}
 use mathlib.Core.Bool.{not}

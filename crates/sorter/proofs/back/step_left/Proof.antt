@@ -3,7 +3,7 @@ use borrow.Author.Needs.{needs}
 use Rattle.sorter.proofs.back.step_left.Statement.{statement}
 use Rattle.sorter.proofs.back.step_left.Tie as tie
 use native.Mathlib.Omega.{arith}
-use mathlib.Core.Path.{sym, ap, _∙_}
+use mathlib.Core.Path.{ap, _∙_}
 use lib.Dec.{ltb}
 use lib.ListN.{getD}
 use Rattle.sorter.proofs.Closed.{step-left, step-low}

@@ -1,5 +1,4 @@
 -- The count is a byte of the table.
-use borrow.Author.Needs.{needs}
 use Rattle.table.proofs.sound.input_count.Statement.{statement}
 use Rattle.table.proofs.sound.input_count.Tie as tie
 use native.Mathlib.Omega.{arith}
