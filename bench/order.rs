@@ -26,5 +26,5 @@ fn main() {
     };
     let costs: [&dyn Fn(&Table) -> u64; 2] =
         [&|table| cost(oorlichday_order, table), &|table| cost(plain_order, table)];
-    measured("order", 300_000, tables(), great, changed, costs);
+    measured("order", 130_000, tables(), great, changed, costs);
 }

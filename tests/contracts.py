@@ -81,10 +81,10 @@ def listed():
 
 
 def seen(crate, path):
-    """What of an answer is stated to be one: all of it, or the fields that are not listed as left open."""
+    """What of an answer is stated to be one: all of it, the bytes of a part, or the fields that are not listed as left open."""
     left = listed().get("::".join((crate, *path)), [])
     if not left:
-        return r"\(λ κs r\. r\)"
+        return r"\(λ κs r\. (now )?r\)"
     interface = (ROOT / f"target/rlib/{crate}.rlib/interface/lang/src/lib.rt").read_text(encoding="utf-8")
     answer = re.search(rf"fn {path[-1]} \(.*\) -> (\w+) ;", interface)[1]
     fields = re.findall(r"pub (\w+) :", re.search(rf"struct {answer} {{(.*)}}", interface)[1])

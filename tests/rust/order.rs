@@ -124,6 +124,47 @@ fn add_a_tail(table: &mut Table) {
     table.units += 1;
 }
 
+/// The first and last calls of the words of 64 bits, and the last call of all.
+const WORD_ENDS: [usize; 7] = [63, 64, 127, 128, 191, 192, 223];
+
+/// Each is the lowest ready call at some place: the only one that is ready, and with others above it.
+#[test]
+fn lowest_ready_calls_at_word_ends() {
+    let (mut random, mut lender) = (Random::new(28), Lender::new());
+    let (mut alone, mut among) = ([0usize; 224], [0usize; 224]);
+    for round in 0..1_000 {
+        let table = if round % 4 == 0 {
+            relabelled(&mut random, &chain(32, false))
+        } else {
+            acyclic(&mut random, GREATEST).0
+        };
+        let answer = agree(&mut lender, &mut random, &table.packed(), 224);
+        assert_eq!((answer.number, answer.place), (0, 224));
+        for ready in ready_in_turn(&table) {
+            let reached = if ready.len() == 1 { &mut alone } else { &mut among };
+            reached[ready[0]] += 1;
+        }
+    }
+    assert!(WORD_ENDS.iter().all(|&call| alone[call] >= 100), "{:?}", alone);
+    assert!(WORD_ENDS[..6].iter().all(|&call| among[call] >= 100), "{:?}", among);
+}
+
+/// The calls that are ready at each place of the reference's order, lowest first.
+fn ready_in_turn(table: &Table) -> Vec<Vec<usize>> {
+    let before = table.predecessors();
+    let mut placed = vec![false; before.len()];
+    let (_, front) = order(&table.packed(), before.len());
+    let at_place = |call: u8| {
+        let is_ready =
+            |call: &usize| !placed[*call] && before[*call].iter().all(|&other| placed[other]);
+        let ready: Vec<usize> = (0..before.len()).filter(is_ready).collect();
+        assert_eq!(ready[0], call as usize);
+        placed[call as usize] = true;
+        ready
+    };
+    front.into_iter().map(at_place).collect()
+}
+
 #[test]
 fn fuzz_order() {
     let ((rounds, mut random), mut lender) = (fuzz::fuzzing(27), Lender::new());

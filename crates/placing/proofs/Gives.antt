@@ -1,36 +1,25 @@
 -- What each kind of call releases, in the terms of the code: the parts and counts that it has read.
-use mathlib.Core.Path.{_≡_, sym, _∙_}
+use mathlib.Core.Path.{_≡_, sym, ap, subst, _∙_}
 use mathlib.Core.List.{List}
-use Prim.Native.Nat.{ℕ, _+_, _-_, _≤_, _<_}
+use Prim.Native.Nat.{ℕ, _+_, _/_, _%_, _≤_, _<_}
 use native.Mathlib.Omega.{arith}
-use native.Mathlib.Decide.{ℕ-discrete}
-use lib.Dec.{eqb, eqb-refl}
-use lib.ListN.{length, getD, set, length-set}
-use lib.Seq.{getD-set-same, getD-set-other}
-use Rattle.search.specs.Truth.{is-true, is-false, eq-false}
+use lib.Dec.{eqb, eqb→eq, eqb-refl}
+use lib.ListN.{length, getD}
+use Rattle.search.specs.Truth.{T-and, is-true, is-false, eq-false}
 use Rattle.search.specs.Count.{bit}
 use Rattle.table.specs.Packed.{units, outputs, inputs, feeds, outputOwners}
-use Rattle.table.specs.Packed.{inputOwners, kinds, sources, pairs, shapeOf}
+use Rattle.table.specs.Packed.{inputOwners, kinds, sources, pairs, pairInput, shapeOf}
 use Rattle.table.specs.Sound.{Sound}
 use Rattle.table.specs.Checked.{few-calls}
 use Rattle.table.specs.Layout.{long-output-owners, long-input-owners, long-sources}
 use Rattle.calls.specs.Number.{getNo, setNo}
-use Rattle.placing.specs.Less.{isKey, areKeys, isInput, nth, fed, hits, Less}
-use Rattle.placing.specs.Waiting.{only, stepsToGets, stepsToSets, into, ownStep}
-use Rattle.placing.proofs.Into.{into-step, into-get, into-set}
-
--- two falls, one after the other
-pub less-both : (a b sum : ℕ → ℕ) (high middle low : List ℕ) → ((c : ℕ) → sum c ≡ a c + b c)
-    → Less a high middle → Less b middle low → Less sum high low
-less-both a b sum high middle low e l m = record {
-  long = m .long ∙ l .long;
-  less = λ c. omega (arith, e c, l .less c, m .less c);
-}
-
--- what is left for the second
-pub less-left : (a b sum : ℕ → ℕ) (high middle : List ℕ) → ((c : ℕ) → sum c ≡ a c + b c)
-    → ((c : ℕ) → sum c ≤ getD high c 0) → Less a high middle → (c : ℕ) → b c ≤ getD middle c 0
-less-left a b sum high middle e enough l c = omega (arith, e c, enough c, l .less c)
+use Rattle.calls.specs.Hits.{nth, hits}
+use Rattle.calls.specs.Given.{only, stepsToGets, stepsToSets, into, ownStep}
+use Rattle.calls.specs.Givens.{into-step, into-get, into-set}
+use Rattle.placing.specs.Less.{isKey, areKeys, isInput, fed}
+use Rattle.placing.specs.Blocks.{Block, Within, Owned, Joined}
+use Rattle.placing.specs.Lowered.{once}
+use Rattle.placing.proofs.Noted.{within-low, within-high}
 
 module _ (t : List ℕ) (ok : Sound t) where
   -- the last call stands before the end of the counts
@@ -79,7 +68,7 @@ module _ (t : List ℕ) (ok : Sound t) where
 
   pub fed-fits : (first count : ℕ) (pairs′ : List ℕ) → first ≡ units t → count ≡ feeds t
       → pairs′ ≡ pairs t
-      → (k : ℕ) → k < count → fed pairs′ first k < 225
+      → (k : ℕ) → k < count → fed pairs′ first k < 224
   fed-fits first count pairs′ e f g k h =
       rw (e, g) (omega (arith, fits, ok .wired .feed-output k (omega arith)))
 
@@ -96,27 +85,56 @@ module _ (t : List ℕ) (ok : Sound t) where
   unfolding ownStep bit
   own-some x kind unit e k f = rw (← e, k, ← f, is-true (eqb unit unit) (eqb-refl unit))
 
-  pub own-lower : (x kind unit : ℕ) (w : List ℕ) → kind ≡ getD (kinds t) x 0 → kind ≡ 1
-      → unit ≡ getD (inputOwners t) x 0 → unit < length w → 0 < getD w unit 0
-      → Less (ownStep (shapeOf t) x) w (set w unit (getD w unit 0 - 1))
-  unfolding ownStep bit
-  own-lower x kind unit w e k f h p = record {
-    long = length-set w unit (getD w unit 0 - 1);
-    less = λ c. elim (ℕ-discrete c unit) [
-      | yes q ↦
-          rw (q, getD-set-same w unit (getD w unit 0 - 1) 0 h)
-          (omega (arith, own-some x kind unit e k f))
-      | no ne ↦
-          rw (
-            getD-set-other w unit c (getD w unit 0 - 1) 0 ne,
-            ← e,
-            k,
-            ← f,
-            is-false (eqb unit c) (eq-false unit c (λ q. ne (sym q))),
-          )
-          (omega arith)
-    ];
-  }
+  -- and nothing to another call
+  pub own-once : (x kind unit : ℕ) → kind ≡ getD (kinds t) x 0 → kind ≡ 1
+      → unit ≡ getD (inputOwners t) x 0 → (c : ℕ) → ownStep (shapeOf t) x c ≡ once unit c
+  unfolding ownStep
+  own-once x kind unit e k f c = rw (← e, k, ← f)
 
-  pub own-fits : (x unit : ℕ) → x < inputs t → unit ≡ getD (inputOwners t) x 0 → unit < 225
+  pub own-fits : (x unit : ℕ) → x < inputs t → unit ≡ getD (inputOwners t) x 0 → unit < 224
   own-fits x unit h e = omega (arith, fits, ok .wired .input-owned x h)
+
+  -- ---- the blocks that a call's successors stand in are noted
+  pub step-gets : (u : ℕ) (owners own : List ℕ) → owners ≡ outputOwners t → Owned t own
+      → Within (isKey owners u) 24 (length owners) (getD own u 0 % 16) 0
+  step-gets u owners own e o =
+      let n = ap length e ∙ long-output-owners t (ok .long) in
+      within-low (isKey owners u) 24 (length owners) (getD own u 0)
+      (λ i h. omega (arith, n, ok .counted .outputs-most))
+      (λ i h q.
+      let z : getD (outputOwners t) i 0 ≡ u =
+      ap (λ l. getD l i 0) (sym e) ∙ eqb→eq (getD owners i 0) u q in
+      subst (λ k. Block (getD own k 0) (i / 24)) z (o .gets i (omega (arith, n))))
+
+  pub step-sets : (u : ℕ) (owners kinds′ own : List ℕ) → owners ≡ inputOwners t → Owned t own
+      → Within (areKeys owners u kinds′ 0) 24 (length owners) (getD own u 0 / 16 % 16) 0
+  step-sets u owners kinds′ own e o =
+      let n = ap length e ∙ long-input-owners t (ok .long) in
+      within-high (areKeys owners u kinds′ 0) 24 (length owners) (getD own u 0)
+      (λ i h. omega (arith, n, ok .counted .inputs-most))
+      (λ i h q.
+      let (a, b) = T-and (isKey owners u i) (isKey kinds′ 0 i) q in
+      let z : getD (inputOwners t) i 0 ≡ u =
+      ap (λ l. getD l i 0) (sym e) ∙ eqb→eq (getD owners i 0) u a in
+      subst (λ k. Block (getD own k 0) (4 + i / 24)) z (o .sets i (omega (arith, n))))
+
+  pub get-sets : (y : ℕ) (sources′ mask : List ℕ) → sources′ ≡ sources t → Joined t mask
+      → Within (isKey sources′ y) 24 (length sources′) (getD mask y 0 / 16 % 16) 0
+  get-sets y sources′ mask e o =
+      let n = ap length e ∙ long-sources t (ok .long) in
+      within-high (isKey sources′ y) 24 (length sources′) (getD mask y 0)
+      (λ i h. omega (arith, n, ok .counted .inputs-most))
+      (λ i h q.
+      let z : getD (sources t) i 0 ≡ y =
+      ap (λ l. getD l i 0) (sym e) ∙ eqb→eq (getD sources′ i 0) y q in
+      subst (λ k. Block (getD mask k 0) (4 + i / 24)) z (o .sets i (omega (arith, n))))
+
+  pub set-gets : (x count : ℕ) (pairs′ mask : List ℕ) → count ≡ feeds t → pairs′ ≡ pairs t
+      → Joined t mask → Within (isInput pairs′ x) 32 count (getD mask x 0 % 16) 0
+  set-gets x count pairs′ mask f e o =
+      within-low (isInput pairs′ x) 32 count (getD mask x 0)
+      (λ k h. omega (arith, f, ok .counted .feeds-most))
+      (λ k h q.
+      let z : pairInput (pairs t) k ≡ x =
+      ap (λ l. pairInput l k) (sym e) ∙ eqb→eq (pairInput pairs′ k) x q in
+      subst (λ i. Block (getD mask i 0) (k / 32)) z (o .gets k (omega (arith, f))))

@@ -12,7 +12,8 @@ use lib.ListN.{length, getD, set, length-set}
 use lib.Seq.{getD-set-same, getD-set-other}
 use Rattle.search.specs.Truth.{and-T, is-true, is-false, eq-true, eq-false}
 use Rattle.search.specs.Count.{bit, count}
-use Rattle.placing.specs.Less.{isKey, areKeys, hits, Less}
+use Rattle.calls.specs.Hits.{hits}
+use Rattle.placing.specs.Less.{isKey, areKeys, Less}
 
 module _ (q : ℕ → Bool) (at : ℕ → ℕ) where
   pub hits-none : (c : ℕ) → hits q at 0 c ≡ 0
@@ -28,6 +29,15 @@ module _ (q : ℕ → Bool) (at : ℕ → ℕ) where
   pub hits-hit : (n c : ℕ) → T (q n) → at n ≡ c → hits q at (n + 1) c ≡ suc (hits q at n c)
   unfolding hits count bit
   hits-hit n c t e = rw (add-one, is-true (q n) t, e, is-true (eqb c c) (eqb-refl c)) (omega arith)
+
+  pub hits-on : (n c : ℕ) → T (q n) → hits q at (n + 1) c ≡ hits q at n c + bit (eqb (at n) c)
+  unfolding hits count
+  hits-on n c t = rw (add-one, is-true (q n) t) (omega arith)
+
+  -- one more place, whether or not it passes
+  pub hits-next : (n c : ℕ) → hits q at (n + 1) c ≡ hits q at n c + bit (q n && eqb (at n) c)
+  unfolding hits count
+  hits-next n c = rw add-one (omega arith)
 
   pub hits-other : (n c : ℕ) → at n ≢ c → hits q at (n + 1) c ≡ hits q at n c
   unfolding hits count bit
@@ -64,6 +74,18 @@ module _ (keys : List ℕ) (key : ℕ) (others : List ℕ) (other i : ℕ) where
       go true q t = t
       go false q t = tt
 
+-- where a test passes that has room, the count is not 0
+pub pass-some : (p : Bool) (call : ℕ) (w : List ℕ) → T p
+    → ((c : ℕ) → bit (p && eqb call c) ≤ getD w c 0) → 0 < getD w call 0
+unfolding bit
+pass-some p call w t enough =
+    go p (eqb call call) t (eqb-refl call) (enough call)
+  where
+    go : (a b : Bool) → T a → T b → bit (a && b) ≤ getD w call 0 → 0 < getD w call 0
+    go true true s u h = omega arith
+    go true false s u h = absurd u
+    go false b s u h = absurd s
+
 -- ---- a loop that lowers one count for each that passes
 
 pub less-none : (q : ℕ → Bool) (at : ℕ → ℕ) (w : List ℕ) → Less (hits q at 0) w w
@@ -91,25 +113,18 @@ module _ (q : ℕ → Bool) (at : ℕ → ℕ) (k : ℕ) where
         hits-more q at (k + 1) n (at k) (omega arith),
       )
 
-  pub lower-hit : (n : ℕ) (high low : List ℕ) → k < n → T (q k) → at k < length high
+  -- what place k takes is still there
+  pub lower-room : (n : ℕ) (high low : List ℕ) → k < n
       → ((c : ℕ) → hits q at n c ≤ getD high c 0) → Less (hits q at k) high low
-      → Less (hits q at (k + 1)) high (set low (at k) (getD low (at k) 0 - 1))
-  lower-hit n high low h t i enough l = record {
-    long = length-set low (at k) (getD low (at k) 0 - 1) ∙ l .long;
-    less = λ c. elim (ℕ-discrete c (at k)) [
-      | yes e ↦
-          rw (e, getD-set-same low (at k) (getD low (at k) 0 - 1) 0 (omega (arith, l .long)))
-          (omega (
-            arith,
-            l .less (at k),
-            hits-hit q at k (at k) t refl,
-            lower-some n high low h t enough l,
-          ))
-      | no ne ↦
-          rw (getD-set-other low (at k) c (getD low (at k) 0 - 1) 0 ne)
-          (omega (arith, l .less c, hits-other q at k c (λ e. ne (sym e))))
-    ];
-  }
+      → (c : ℕ) → bit (q k && eqb (at k) c) ≤ getD low c 0
+  lower-room n high low h enough l c =
+      omega (
+        arith,
+        l .less c,
+        enough c,
+        hits-next q at k c,
+        hits-more q at (k + 1) n c (omega arith),
+      )
 
   -- ---- a loop that raises one count for each that passes
   pub raise-room : (n : ℕ) (high low : List ℕ) → k < n → T (q k)

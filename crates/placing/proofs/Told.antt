@@ -1,11 +1,19 @@
 -- From a call that the code has told apart back to its number.
 use mathlib.Core.Path.{_≡_, ap, _∙_}
+use mathlib.Core.List.{List}
 use Prim.Native.Nat.{ℕ, _<_}
 use native.Mathlib.Omega.{arith}
 use Rattle.table.specs.Shape.{Shape, total}
+use Rattle.table.specs.Packed.{units, outputs, inputs, shapeOf}
+use Rattle.calls.specs.declared.Call.{Call}
 use Rattle.calls.specs.declared.Call.the-variants.{Step, Get, Set, NoCall}
-use Rattle.calls.specs.Number.{callOf, getNo, setNo}
+use Rattle.calls.specs.Number.{callIn, callOf, getNo, setNo}
 use Rattle.calls.specs.Numbers.{is-step, is-get, is-set, View, at-step, at-get, at-set, view}
+
+-- the call told by the counts is that of the table
+pub told-as : (t : List ℕ) (c u y x : ℕ) (k : Call) → u ≡ units t → y ≡ outputs t → x ≡ inputs t
+    → k ≡ callIn u y x c → k ≡ callOf (shapeOf t) c
+told-as t c u y x k e f g h = h ∙ rw (e, f, g)
 
 module _ (s : Shape) (c : ℕ) (h : c < total s) where
   pub told-step : (u : ℕ) → callOf s c ≡ Step u → (u < s .units) × (u ≡ c)

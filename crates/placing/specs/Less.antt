@@ -5,7 +5,6 @@ use mathlib.Core.List.{List}
 use Prim.Native.Nat.{ℕ, _+_}
 use lib.Dec.{eqb}
 use lib.ListN.{length, getD}
-use Rattle.search.specs.Count.{count}
 use Rattle.table.specs.Packed.{pairInput, pairOutput}
 
 -- every place passes
@@ -24,10 +23,6 @@ areKeys bytes key others other i = eqb (getD bytes i 0) key && eqb (getD others 
 abbrev pub isInput : List ℕ → ℕ → ℕ → Bool
 isInput pairs input k = eqb (pairInput pairs k) input
 
--- the i-th call from the first on
-abbrev pub nth : ℕ → ℕ → ℕ
-nth first i = first + i
-
 -- the call that stands at place i
 abbrev pub called : List ℕ → ℕ → ℕ
 called calls i = getD calls i 0
@@ -35,10 +30,6 @@ called calls i = getD calls i 0
 -- the get of the output of pair k, where the gets begin at the first
 abbrev pub fed : List ℕ → ℕ → ℕ → ℕ
 fed pairs first k = first + pairOutput pairs k
-
--- how many of the first n that pass have their call at c
-unfoldable pub hits : (ℕ → Bool) → (ℕ → ℕ) → ℕ → ℕ → ℕ
-hits passes call n c = count (λ i. passes i && eqb (call i) c) n
 
 -- the counts `low` are the counts `high`, less the amount of each call
 pub record Less (amount : ℕ → ℕ) (high low : List ℕ) : Type 0 where

@@ -6,7 +6,7 @@ use lib.Dec.{eqb}
 use lib.ListN.{length}
 use borrow.Author.Tests.{le-leb, lt-leb}
 use Rattle.search.specs.Truth.{is-false, eq-false}
-use Rattle.table.specs.Check.{refusal, checked}
+use Rattle.table.specs.Check.{refusal}
 use Rattle.table.specs.Outcome.{outcome}
 use Rattle.placing.specs.Placing.{callCount, placedOf, placing}
 
@@ -23,9 +23,3 @@ module _ (t : List ℕ) (room : ℕ) where
       → placing t room ≡ outcome 0 (length (placedOf t)) (placedOf t)
   unfolding placing
   placing-done e h = rw (e, le-leb (callCount t) room h)
-
-  -- a refusal of the check is passed on
-  pub placing-checked : (refusal t ≡ 0 → ⊥) → checked t ≡ placing t room .answer
-  unfolding checked
-  placing-checked n =
-      rw (placing-unsound n, is-false (eqb (refusal t) 0) (eq-false (refusal t) 0 n))

@@ -1,14 +1,14 @@
-// Loops over the table's parts that raise and lower the waiting counts of calls.
+// Loops over the table's parts that raise the waiting counts of calls.
 ghost use mathlib.Core.Path.{_≡_};
 ghost use Prim.Native.Nat.{ℕ, _+_, _*_, _≤_, _<_};
 ghost use lib.ListN.{length, getD};
-ghost use Rattle.placing.specs.Less.{each, isKey, areKeys, isInput};
-ghost use Rattle.placing.specs.Less.{nth, called, fed, hits, Less};
+ghost use Rattle.calls.specs.Hits.{nth, hits};
+ghost use Rattle.placing.specs.Less.{each, isKey, called, fed, Less};
 
 // One more at each of `count` calls from `first` on.
-pub fn raise_range(first: usize, count: usize, waiting: &mut [u8; 225])
-    requires { ⌜ length (now waiting) ≡ 225 ⌝ }
-    requires { ⌜ first + count ≤ 225 ⌝ }
+pub fn raise_range(first: usize, count: usize, waiting: &mut [u8; 224])
+    requires { ⌜ length (now waiting) ≡ 224 ⌝ }
+    requires { ⌜ first + count ≤ 224 ⌝ }
     requires { ⌜ ((c : ℕ) → getD (now waiting) c 0 + hits each (nth first) count c ≤ 255) ⌝ }
     ensures { λ r.
         ⌜ Less (hits each (nth first) count) (now (waiting .exit)) (now (waiting .entry)) ⌝ }
@@ -21,9 +21,9 @@ pub fn raise_range(first: usize, count: usize, waiting: &mut [u8; 225])
 }
 
 // One more at the i-th call from `first` on for each place i that holds the key.
-pub fn raise_keyed(keys: &[u8], key: u8, first: usize, waiting: &mut [u8; 225])
-    requires { ⌜ length (now waiting) ≡ 225 ⌝ }
-    requires { ⌜ first + length (now keys) ≤ 225 ⌝ }
+pub fn raise_keyed(keys: &[u8], key: u8, first: usize, waiting: &mut [u8; 224])
+    requires { ⌜ length (now waiting) ≡ 224 ⌝ }
+    requires { ⌜ first + length (now keys) ≤ 224 ⌝ }
     requires { ⌜ ((c : ℕ) → getD (now waiting) c 0
         + hits (isKey (now keys) key) (nth first) (length (now keys)) c ≤ 255) ⌝ }
     ensures { λ r.
@@ -40,10 +40,10 @@ pub fn raise_keyed(keys: &[u8], key: u8, first: usize, waiting: &mut [u8; 225])
 }
 
 // One more at the call named at place i for each place i that holds the key.
-pub fn raise_called(keys: &[u8], key: u8, calls: &[u8], waiting: &mut [u8; 225])
-    requires { ⌜ length (now waiting) ≡ 225 ⌝ }
+pub fn raise_called(keys: &[u8], key: u8, calls: &[u8], waiting: &mut [u8; 224])
+    requires { ⌜ length (now waiting) ≡ 224 ⌝ }
     requires { ⌜ length (now keys) ≡ length (now calls) ⌝ }
-    requires { ⌜ ((i : ℕ) → i < length (now keys) → called (now calls) i < 225) ⌝ }
+    requires { ⌜ ((i : ℕ) → i < length (now keys) → called (now calls) i < 224) ⌝ }
     requires { ⌜ ((c : ℕ) → getD (now waiting) c 0
         + hits (isKey (now keys) key) (called (now calls)) (length (now keys)) c ≤ 255) ⌝ }
     ensures { λ r. ⌜ Less
@@ -61,10 +61,10 @@ pub fn raise_called(keys: &[u8], key: u8, calls: &[u8], waiting: &mut [u8; 225])
 }
 
 // One more at the get of the output of each of `count` feeds; the gets begin at `first`.
-pub fn raise_fed(pairs: &[u8], count: usize, first: usize, waiting: &mut [u8; 225])
-    requires { ⌜ length (now waiting) ≡ 225 ⌝ }
+pub fn raise_fed(pairs: &[u8], count: usize, first: usize, waiting: &mut [u8; 224])
+    requires { ⌜ length (now waiting) ≡ 224 ⌝ }
     requires { ⌜ length (now pairs) ≡ 2 * count ⌝ }
-    requires { ⌜ ((k : ℕ) → k < count → fed (now pairs) first k < 225) ⌝ }
+    requires { ⌜ ((k : ℕ) → k < count → fed (now pairs) first k < 224) ⌝ }
     requires { ⌜ ((c : ℕ) → getD (now waiting) c 0 + hits each (fed (now pairs) first) count c
         ≤ 255) ⌝ }
     ensures { λ r. ⌜ Less (hits each (fed (now (pairs .entry)) first) count)
@@ -74,77 +74,6 @@ pub fn raise_fed(pairs: &[u8], count: usize, first: usize, waiting: &mut [u8; 22
     while k < count {
         let output = pairs[2 * k + 1] as usize;
         waiting[first + output] += 1;
-        k += 1;
-    }
-}
-
-// One less at the i-th call from `first` on for each place i that holds the key.
-pub fn lower_keyed(keys: &[u8], key: u8, first: usize, waiting: &mut [u8; 225])
-    requires { ⌜ length (now waiting) ≡ 225 ⌝ }
-    requires { ⌜ first + length (now keys) ≤ 225 ⌝ }
-    requires { ⌜ ((c : ℕ) → hits (isKey (now keys) key) (nth first) (length (now keys)) c
-        ≤ getD (now waiting) c 0) ⌝ }
-    ensures { λ r.
-        ⌜ Less (hits (isKey (now (keys .entry)) key) (nth first) (length (now (keys .entry))))
-        (now (waiting .entry)) (now (waiting .exit)) ⌝ }
-{
-    let mut i = 0;
-    while i < keys.len() {
-        if keys[i] == key {
-            waiting[first + i] -= 1;
-        }
-        i += 1;
-    }
-}
-
-// One less at the i-th call from `first` on for each place i of which both hold their key.
-pub fn lower_both(
-    keys: &[u8],
-    key: u8,
-    others: &[u8],
-    other: u8,
-    first: usize,
-    waiting: &mut [u8; 225],
-)
-    requires { ⌜ length (now waiting) ≡ 225 ⌝ }
-    requires { ⌜ length (now keys) ≡ length (now others) ⌝ }
-    requires { ⌜ first + length (now keys) ≤ 225 ⌝ }
-    requires { ⌜ ((c : ℕ) → hits (areKeys (now keys) key (now others) other) (nth first)
-        (length (now keys)) c
-        ≤ getD (now waiting) c 0) ⌝ }
-    ensures { λ r. ⌜ Less
-        (hits (areKeys (now (keys .entry)) key (now (others .entry)) other) (nth first)
-        (length (now (keys .entry))))
-        (now (waiting .entry)) (now (waiting .exit)) ⌝ }
-{
-    let mut i = 0;
-    while i < keys.len() {
-        if keys[i] == key {
-            if others[i] == other {
-                waiting[first + i] -= 1;
-            }
-        }
-        i += 1;
-    }
-}
-
-// One less at the get of each output that the input feeds, of `count` feeds; gets begin at `first`.
-pub fn lower_fed(pairs: &[u8], count: usize, input: u8, first: usize, waiting: &mut [u8; 225])
-    requires { ⌜ length (now waiting) ≡ 225 ⌝ }
-    requires { ⌜ length (now pairs) ≡ 2 * count ⌝ }
-    requires { ⌜ ((k : ℕ) → k < count → fed (now pairs) first k < 225) ⌝ }
-    requires { ⌜ ((c : ℕ) → hits (isInput (now pairs) input) (fed (now pairs) first) count c
-        ≤ getD (now waiting) c 0) ⌝ }
-    ensures { λ r.
-        ⌜ Less (hits (isInput (now (pairs .entry)) input) (fed (now (pairs .entry)) first) count)
-        (now (waiting .entry)) (now (waiting .exit)) ⌝ }
-{
-    let mut k = 0;
-    while k < count {
-        if pairs[2 * k] == input {
-            let output = pairs[2 * k + 1] as usize;
-            waiting[first + output] -= 1;
-        }
         k += 1;
     }
 }

@@ -1,11 +1,12 @@
 -- The cycle that the walk met, as a part of its path; and what it is turned to.
-use mathlib.Core.Path.{_≡_, sym, ap, _∙_}
-use mathlib.Core.List.{List}
-use Prim.Native.Nat.{ℕ, suc, _+_, _-_, _≤_, _<_}
+use mathlib.Core.Path.{_≡_, refl, sym, ap, subst, _∙_}
+use mathlib.Core.List.{List, [], _∷_}
+use Prim.Native.Nat.{ℕ, zero, suc, _+_, _-_, _≤_, _<_}
+use native.Mathlib.Numerals.{add-one}
 use native.Mathlib.Omega.{arith}
 use native.Mathlib.Decide.{decLt}
 use lib.Dec.{T, eqb, eqb→eq}
-use lib.ListN.{length, getD, take, drop, length-drop}
+use lib.ListN.{length, getD, take, drop, length-drop, length-append}
 use lib.Seq.{length-take-le, getD-take, take-all}
 use Rattle.search.specs.Truth.{clash, eq-true}
 use Rattle.search.specs.Least.{leastFrom, lowest-is}
@@ -18,6 +19,7 @@ use Rattle.orders.specs.Turned.{turn-length, lowestPlace-is, at-among}
 use Rattle.orders.specs.Remains.{placed-calls}
 use Rattle.placing.specs.Less.{isKey}
 use Rattle.placing.specs.Placing.{callCount, placedOf}
+use Rattle.placing.specs.Thread.{chain}
 use Rattle.sorter.specs.Trail.{Walked}
 use Rattle.sorter.specs.Ordering.{shownOf}
 
@@ -72,17 +74,20 @@ module _ (seen : List ℕ) (c n : ℕ) (has : T (among seen c))
     turned-long =
         sym met-long ∙ sym (turn-length first (take (p + 1) seen) first-in) ∙ ap length turned-is
 
-pub placed-few : (t : List ℕ) (placed : List ℕ) → placed ≡ placedOf t → callCount t ≤ 224 → (i : ℕ)
-    → i < length placed → getD placed i 0 < 224
+-- ---- the thread holds the calls that were placed
+pub placed-below : (t placed : List ℕ) → placed ≡ placedOf t → callCount t ≤ 224 → (c : ℕ)
+    → T (among placed c) → c < 224
 unfolding placedOf
-placed-few t placed e f i h =
-    rw e
-    (omega (arith, placed-calls (callCount t) (precedes (shapeOf t)) i (rw (← e) h)))
+placed-below t placed e f c h =
+    let (i, l, p) = at-among c (placedOf t) (subst (λ k. T (among k c)) e h) in
+    omega (arith, p, placed-calls (callCount t) (precedes (shapeOf t)) i l)
 
--- the front of the list holds as many calls as were placed
-pub placed-long : (t calls : List ℕ) (n : ℕ) → take n calls ≡ placedOf t → n ≤ length calls
-    → length (placedOf t) ≡ n
-placed-long t calls n e h = sym (ap length e) ∙ length-take-le n calls h
+pub chain-long : (bytes : List ℕ) (n c : ℕ) → length (chain bytes n c) ≡ n
+unfolding chain
+chain-long bytes zero c = refl
+chain-long bytes (suc n) c =
+    length-append (chain bytes n (getD bytes c 0)) (c ∷ [])
+    ∙ rw (chain-long bytes n (getD bytes c 0), add-one)
 
 -- ---- what is shown of where the walk ends
 module _ (t path : List ℕ) (at call : ℕ) (w : Walked t path at call) where

@@ -1,70 +1,91 @@
 -- The loops of the backward walk: marks as sets, and a path that is filled from its end.
 use mathlib.Core.Path.{_≡_, refl, sym, ap, subst, _∙_, fun-ext}
-use mathlib.Core.Bool.{Bool, true, false, not}
+use mathlib.Core.Bool.{Bool, true, false, not, _||_, or-false}
 use mathlib.Core.List.{List, [], _∷_}
 use Prim.Native.Nat.{ℕ, suc, _+_, _-_, _≤_, _<_}
-use native.Mathlib.Numerals.{add-one}
 use native.Mathlib.Omega.{arith}
-use native.Mathlib.Decide.{ℕ-discrete}
 use lib.Dec.{T, eqb}
-use lib.ListN.{length, getD, set, take, drop, length-set, drop-of-length-le}
-use lib.Seq.{take-suc, take-all, drop-cons, drop-set-lt, getD-set-same, getD-set-other}
-use Rattle.search.specs.Truth.{is-true, is-false, eq-false}
+use lib.ListN.{length, getD, set, drop, length-set, drop-of-length-le}
+use lib.Seq.{drop-cons, drop-set-lt, getD-set-same}
+use Rattle.search.specs.Truth.{or-right}
 use Rattle.search.specs.Sets.{none, add, add-self}
 use Rattle.search.specs.Count.{count, count-le, count-none, count-add}
 use Rattle.search.specs.Least.{leastFrom}
+use Rattle.bits.specs.Bits.{has, put, Words}
+use Rattle.bits.specs.Laws.{put-has, put-words}
 use Rattle.table.specs.Packed.{shapeOf}
 use Rattle.calls.specs.Precedence.{precedes}
 use Rattle.orders.specs.Walk.{among, lowestBefore, lowestLeft, walk, met}
 use Rattle.orders.specs.Remains.{cons-calls, placed-stuck, left-one}
 use Rattle.orders.specs.Walked.{lowest-left, walk-met, walk-on, back}
 use Rattle.placing.specs.Placing.{callCount, placedOf}
-use Rattle.placing.proofs.Stage.{among-end}
-use Rattle.sorter.specs.Marks.{marked}
+use Rattle.placing.specs.Thread.{chain}
+use Rattle.placing.proofs.Threads.{among-end}
 use Rattle.sorter.specs.Trail.{Walked}
-use Rattle.sorter.proofs.Before.{unmarked, is-marked}
 
--- ---- marks
+-- ---- marks along the thread
+module _ (bytes : List ℕ) where
+  -- the last of n calls, and those before it
+  chain-last : (n c : ℕ) → 0 < n
+      → among (chain bytes n c) ≡ add c (among (chain bytes (n - 1) (getD bytes c 0)))
+  unfolding chain
+  chain-last n c h =
+      let e : n ≡ suc (n - 1) = omega arith in
+      ap (λ m. among (chain bytes m c)) e ∙ among-end (chain bytes (n - 1) (getD bytes c 0)) c
 
-pub marked-none : (marks : List ℕ) → ((c : ℕ) → getD marks c 0 ≡ 0) → marked marks ≡ none
-marked-none marks h = fun-ext (λ x. rw (h x))
+  -- what is marked, and the n calls that are to come, are all of them
+  pub record Marking (count last : ℕ) (marks : List ℕ) (n c : ℕ) : Type 0 where
+    pub words : Words marks
+    pub same : (x : ℕ)
+        → (has marks x || among (chain bytes n c) x) ≡ among (chain bytes count last) x
 
-pub marked-more : (marks : List ℕ) (c : ℕ) → c < length marks
-    → marked (set marks c 1) ≡ add c (marked marks)
-marked-more marks c h = fun-ext (λ x. at x)
-  where
-    at : (x : ℕ) → marked (set marks c 1) x ≡ add c (marked marks) x
-    at x = elim (ℕ-discrete x c) [
-      | yes e ↦ rw (
-        e,
-        getD-set-same marks c 1 0 h,
-        is-true (add c (marked marks) c) (add-self c (marked marks)),
-      )
-      | no ne ↦ rw (getD-set-other marks c x 1 0 ne, is-false (eqb x c) (eq-false x c ne))
-    ]
+  pub marking-starts : (count last : ℕ) (marks : List ℕ) → Words marks → has marks ≡ none
+      → Marking count last marks count last
+  marking-starts count last marks w e = record {
+    words = w;
+    same = λ x. ap (λ (q : ℕ → Bool). q x || among (chain bytes count last) x) e;
+  }
 
-pub mark-on : (calls marks : List ℕ) (i : ℕ) → i < length calls → getD calls i 0 < length marks
-    → marked marks ≡ among (take i calls)
-    → marked (set marks (getD calls i 0) 1) ≡ among (take (i + 1) calls)
-mark-on calls marks i h g e =
-    marked-more marks (getD calls i 0) g
-    ∙ ap (add (getD calls i 0)) e
-    ∙ sym (among-end (take i calls) (getD calls i 0))
-    ∙ rw (add-one, take-suc calls i 0)
+  module _ (count last : ℕ) (marks : List ℕ) (n c : ℕ) (g : Marking count last marks n c) where
+    pub marking-call : 0 < n → T (among (chain bytes count last) c)
+    marking-call h =
+        subst T (g .same c)
+        (or-right (has marks c) (among (chain bytes n c) c)
+        (subst (λ (q : ℕ → Bool). T (q c)) (sym (chain-last n c h))
+        (add-self c (among (chain bytes (n - 1) (getD bytes c 0))))))
 
-pub mark-all : (calls marks : List ℕ) (i : ℕ) → length calls ≤ i
-    → marked marks ≡ among (take i calls)
-    → marked marks ≡ among calls
-mark-all calls marks i h e = e ∙ ap among (take-all i calls h)
+    pub marking-on : 0 < n → c < 224 → Marking count last (put marks c) (n - 1) (getD bytes c 0)
+    marking-on h l = record {
+      words = put-words marks c (omega arith) (g .words);
+      same = λ x. ap (λ (q : ℕ → Bool). q x || among (chain bytes (n - 1) (getD bytes c 0)) x)
+          (put-has marks c (omega arith) (g .words))
+          ∙ moved (eqb x c) (has marks x) (among (chain bytes (n - 1) (getD bytes c 0)) x)
+          ∙ ap (λ (q : ℕ → Bool). has marks x || q x) (sym (chain-last n c h))
+          ∙ g .same x;
+    }
+      where
+        moved : (p q r : Bool) → ((p || q) || r) ≡ (q || (p || r))
+        moved true true r = refl
+        moved true false r = refl
+        moved false q r = refl
+
+    pub marking-ends : n ≤ 0 → has marks ≡ among (chain bytes count last)
+    unfolding chain
+    marking-ends h =
+        let e : n ≡ 0 = omega arith in
+        fun-ext
+        (λ x. sym (or-false (has marks x))
+        ∙ ap (λ m. has marks x || among (chain bytes m c) x) (sym e)
+        ∙ g .same x)
 
 -- ---- the path
 module _ (t : List ℕ) where
   -- what the path holds was seen, and the walk goes on from a call that remains
   pub record Trail (path seen : List ℕ) (at call : ℕ) : Type 0 where
     pub long : length path ≡ 224
-    pub wide : length seen ≡ 224
+    pub wide : Words seen
     pub place : at ≤ 224
-    pub shown : marked seen ≡ among (drop at path)
+    pub shown : has seen ≡ among (drop at path)
     pub many : count (among (drop at path)) (callCount t) + at ≡ 224
     pub calls : (i : ℕ) → i < length (drop at path) → getD (drop at path) i 0 < callCount t
     pub here : call < callCount t
@@ -75,8 +96,8 @@ module _ (t : List ℕ) where
         ≡ walk (callCount t) (precedes (shapeOf t)) (among (placedOf t)) fuel (drop at path) call
 
   module _ (early : length (placedOf t) < callCount t) where
-    pub trail-starts : (path seen : List ℕ) (call : ℕ) → length path ≡ 224 → length seen ≡ 224
-        → ((c : ℕ) → getD seen c 0 ≡ 0)
+    pub trail-starts : (path seen : List ℕ) (call : ℕ) → length path ≡ 224 → Words seen
+        → has seen ≡ none
         → call ≡ lowestLeft (callCount t) (precedes (shapeOf t)) (among (placedOf t))
         → Trail path seen 224 call
     unfolding met placedOf
@@ -89,7 +110,7 @@ module _ (t : List ℕ) where
           long = l;
           wide = w;
           place = omega arith;
-          shown = marked-none seen z ∙ ap among (sym n);
+          shown = z ∙ ap among (sym n);
           many = rw n (omega (arith, count-none (among []) (callCount t) (λ i h. tt)));
           calls = rw n (λ i h. absurd (omega arith));
           here = rw e h;
@@ -115,10 +136,10 @@ module _ (t : List ℕ) where
       more : suc (g .fuel - 1) ≡ g .fuel
       more = omega (arith, g .left, g .many, count-le (among (drop at path)) (callCount t))
 
-      new-call : getD seen call 0 ≡ 0 → T (not (among (drop at path) call))
-      new-call z = subst (λ q. T (not (q call))) (g .shown) (unmarked seen call z)
+      new-call : T (not (has seen call)) → T (not (among (drop at path) call))
+      new-call z = subst (λ q. T (not (q call))) (g .shown) z
 
-      pub trail-room : getD seen call 0 ≡ 0 → 0 < at
+      pub trail-room : T (not (has seen call)) → 0 < at
       trail-room z =
           omega (
             arith,
@@ -127,20 +148,21 @@ module _ (t : List ℕ) where
             g .many,
           )
 
-      pub trail-on : (next : ℕ) → getD seen call 0 ≡ 0
+      pub trail-on : (next : ℕ) → T (not (has seen call))
           → next ≡ lowestBefore (callCount t) (precedes (shapeOf t)) (among (placedOf t)) call
-          → Trail (set path (at - 1) call) (set seen call 1) (at - 1) next
+          → Trail (set path (at - 1) call) (put seen call) (at - 1) next
       trail-on next z e =
           let back : suc (at - 1) ≡ at = omega (arith, trail-room z) in
           let fits : at - 1 < length path = omega (arith, g .long, g .place) in
           let d : drop (at - 1) (set path (at - 1) call) ≡ call ∷ drop at path =
           pushed path (at - 1) call fits ∙ ap (λ n. call ∷ drop n path) back in
+          let small : call < 256 = omega (arith, g .here) in
           let (h, w) = goes-on call (g .here) (g .waits) next e in
           record {
             long = length-set path (at - 1) call ∙ g .long;
-            wide = length-set seen call 1 ∙ g .wide;
+            wide = put-words seen call small (g .wide);
             place = omega (arith, g .place);
-            shown = marked-more seen call (omega (arith, g .wide, g .here))
+            shown = put-has seen call small (g .wide)
                 ∙ ap (add call) (g .shown) ∙ ap among (sym d);
             many = rw d
                 (omega (
@@ -171,10 +193,10 @@ module _ (t : List ℕ) where
                 drop-set-lt (suc i) p i c (omega arith),
               )
 
-      pub trail-met : (getD seen call 0 ≡ 0 → ⊥) → Walked t path at call
-      trail-met n =
+      pub trail-met : T (has seen call) → Walked t path at call
+      trail-met z =
           let old : T (among (drop at path) call) =
-          subst (λ q. T (q call)) (g .shown) (is-marked seen call n) in
+          subst (λ q. T (q call)) (g .shown) z in
           record {
             long = g .long;
             place = g .place;
@@ -193,17 +215,10 @@ twice true t = tt
 twice false t = t
 
 -- the walk begins at the lowest call that is not marked
-pub left-is : (t marks : List ℕ) (n c : ℕ) → n ≡ callCount t → marked marks ≡ among (placedOf t)
-    → c ≡ leastFrom (λ a. not (marked marks a)) n 0
+pub left-is : (t marks : List ℕ) (n c : ℕ) → n ≡ callCount t → has marks ≡ among (placedOf t)
+    → c ≡ leastFrom (λ a. not (has marks a)) n 0
     → c ≡ lowestLeft (callCount t) (precedes (shapeOf t)) (among (placedOf t))
 unfolding lowestLeft
 left-is t marks n c e m f =
-    f ∙ ap (λ k. leastFrom (λ a. not (marked marks a)) k 0) e
+    f ∙ ap (λ k. leastFrom (λ a. not (has marks a)) k 0) e
     ∙ ap (λ (q : ℕ → Bool). leastFrom (λ a. not (q a)) (callCount t) 0) m
-
--- and goes on to the lowest direct predecessor that is not marked
-pub before-is : (t marks : List ℕ) (c a : ℕ) → marked marks ≡ among (placedOf t)
-    → a ≡ lowestBefore (callCount t) (precedes (shapeOf t)) (marked marks) c
-    → a ≡ lowestBefore (callCount t) (precedes (shapeOf t)) (among (placedOf t)) c
-before-is t marks c a m e =
-    e ∙ ap (λ (q : ℕ → Bool). lowestBefore (callCount t) (precedes (shapeOf t)) q c) m

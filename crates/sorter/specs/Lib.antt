@@ -1,4 +1,5 @@
 pub mod Marks
+pub mod Lows
 pub mod Trail
 pub mod Ordering
 pub mod OrderOrCycle

@@ -1,186 +1,109 @@
 // One step of the backward walk: the lowest remaining direct predecessor of a call, by its kind.
 ghost use mathlib.Core.Path.{_≡_};
-ghost use mathlib.Core.Bool.{not, _&&_};
-ghost use Prim.Native.Nat.{_+_, _*_, _≤_, _<_};
+ghost use mathlib.Core.Bool.{not};
+ghost use Prim.Native.Nat.{_<_};
+ghost use lib.Dec.{T};
 ghost use lib.ListN.{length};
-ghost use Rattle.search.specs.Least.{leastFrom};
 ghost use Rattle.table.specs.Packed.{units, outputs, inputs, shapeOf};
 ghost use Rattle.table.specs.Sound.{Sound};
 ghost use Rattle.calls.specs.Number.{getNo, setNo};
 ghost use Rattle.calls.specs.Precedence.{precedes};
-ghost use Rattle.orders.specs.Walk.{lowestBefore};
-ghost use Rattle.placing.specs.Less.{areKeys};
-ghost use Rattle.placing.specs.Placing.{callCount};
-ghost use Rattle.sorter.specs.Marks.{marked, keepsGet, lowerFeeding, sourceLeft};
+ghost use Rattle.orders.specs.Walk.{among, lowestBefore};
+ghost use Rattle.placing.specs.Placing.{callCount, placedOf};
+ghost use Rattle.sorter.specs.Lows.{LowSteps, LowGets};
 use calls::Call;
-use calls::number::call_of;
+use calls::number::call_in;
 use table::parts::byte;
-use table::parts::call_count;
-use table::parts::feed_count;
-use table::parts::feed_pairs;
-use table::parts::input_count;
-use table::parts::input_kinds;
-use table::parts::input_owners;
-use table::parts::input_sources;
-use table::parts::output_count;
-use table::parts::output_owners;
-use table::parts::unit_count;
+use table::sound::input_count;
+use table::sound::input_kinds;
+use table::sound::input_owners;
+use table::sound::input_sources;
+use table::sound::output_count;
+use table::sound::output_owners;
+use table::sound::unit_count;
 
-// Does the set of input x remain and keep the step of the unit waiting? The sets begin at `first`.
-fn keeps_step(
-    owners: &[u8],
-    kinds: &[u8],
-    unit: u8,
-    first: usize,
-    marks: &[u8; 224],
-    x: usize,
-) -> bool
-    requires { ⌜ x < length (now owners) ⌝ }
-    requires { ⌜ length (now kinds) ≡ length (now owners) ⌝ }
-    requires { ⌜ first + length (now owners) ≤ 224 ⌝ }
-    ensures { λ r. ⌜ r ≡ (areKeys (now (kinds .entry)) 1 (now (owners .entry)) unit x
-        && not (marked (now (marks .entry)) (first + x))) ⌝ }
+// The number of an input's set.
+fn set_of(table: &[u8], input: u8) -> usize
+    requires { ⌜ Sound (now table) ⌝ }
+    ensures { λ r. ⌜ r ≡ setNo (shapeOf (now (table .entry))) input ⌝ }
 {
-    if owners[x] != unit {
-        return false;
-    }
-    if kinds[x] != 1 {
-        return false;
-    }
-    marks[first + x] == 0
+    unit_count(table) + output_count(table) + input as usize
 }
 
-// Of a step: the sets of its unit's reactive inputs.
-fn before_step(table: &[u8], unit: usize, marks: &[u8; 224]) -> usize
+// Does the step of the unit remain? It does where the set of a reactive input does.
+fn step_left(table: &[u8], unit: usize, steps: &[u8; 32]) -> bool
     requires { ⌜ Sound (now table) ⌝ }
     requires { ⌜ unit < units (now table) ⌝ }
+    requires { ⌜ length (placedOf (now table)) < callCount (now table) ⌝ }
+    requires { ⌜ LowSteps (now table) (among (placedOf (now table))) (now steps) ⌝ }
+    ensures { λ r. ⌜ r ≡ not (among (placedOf (now (table .entry))) unit) ⌝ }
+{
+    (steps[unit] as usize) < input_count(table)
+}
+
+// Of a get: its unit's step, then the set of the lowest input that feeds it.
+fn before_get(table: &[u8], output: usize, steps: &[u8; 32], gets: &[u8; 96]) -> usize
+    requires { ⌜ Sound (now table) ⌝ }
+    requires { ⌜ output < outputs (now table) ⌝ }
+    requires { ⌜ length (placedOf (now table)) < callCount (now table) ⌝ }
+    requires { ⌜ LowSteps (now table) (among (placedOf (now table))) (now steps) ⌝ }
+    requires { ⌜ LowGets (now table) (among (placedOf (now table))) (now gets) ⌝ }
     ensures { λ r.
         ⌜ r ≡ lowestBefore (callCount (now (table .entry)))
         (precedes (shapeOf (now (table .entry))))
-        (marked (now (marks .entry))) unit ⌝ }
-{
-    let owners = input_owners(table);
-    let kinds = input_kinds(table);
-    let first = unit_count(table) + output_count(table);
-    let mut x = 0;
-    while x < owners.len() {
-        if keeps_step(owners, kinds, unit as u8, first, marks, x) {
-            return first + x;
-        }
-        x += 1;
-    }
-    first + x
-}
-
-// The lower of `best` and the input of feed k, where that feeds the output and its set remains.
-fn lower_feeding(
-    pairs: &[u8],
-    k: usize,
-    output: u8,
-    first: usize,
-    marks: &[u8; 224],
-    best: usize,
-) -> usize
-    requires { ⌜ 2 * k + 1 < length (now pairs) ⌝ }
-    requires { ⌜ first + best ≤ 224 ⌝ }
-    ensures { λ r.
-        ⌜ r ≡ lowerFeeding (now (pairs .entry)) k output first (now (marks .entry)) best ⌝ }
-{
-    if pairs[2 * k + 1] != output {
-        return best;
-    }
-    let input = pairs[2 * k] as usize;
-    if best <= input {
-        return best;
-    }
-    if marks[first + input] != 0 {
-        return best;
-    }
-    input
-}
-
-// The lowest input that feeds the output and whose set remains; X where there is none.
-fn first_feeding(table: &[u8], output: usize, marks: &[u8; 224]) -> usize
-    requires { ⌜ Sound (now table) ⌝ }
-    requires { ⌜ output < outputs (now table) ⌝ }
-    ensures { λ r.
-        ⌜ r ≡ leastFrom (keepsGet (shapeOf (now (table .entry))) output (now (marks .entry)))
-        (inputs (now (table .entry))) 0 ⌝ }
-{
-    let pairs = feed_pairs(table);
-    let count = feed_count(table);
-    let first = unit_count(table) + output_count(table);
-    let mut best = input_count(table);
-    let mut k = 0;
-    while k < count {
-        best = lower_feeding(pairs, k, output as u8, first, marks, best);
-        k += 1;
-    }
-    best
-}
-
-// Of a get: its unit's step, then the sets of the inputs that feed it.
-fn before_get(table: &[u8], output: usize, marks: &[u8; 224]) -> usize
-    requires { ⌜ Sound (now table) ⌝ }
-    requires { ⌜ output < outputs (now table) ⌝ }
-    ensures { λ r.
-        ⌜ r ≡ lowestBefore (callCount (now (table .entry)))
-        (precedes (shapeOf (now (table .entry))))
-        (marked (now (marks .entry))) (getNo (shapeOf (now (table .entry))) output) ⌝ }
+        (among (placedOf (now (table .entry)))) (getNo (shapeOf (now (table .entry))) output) ⌝ }
 {
     let step = byte(output_owners(table), output);
-    if marks[step] == 0 {
+    if step_left(table, step, steps) {
         return step;
     }
-    unit_count(table) + output_count(table) + first_feeding(table, output, marks)
-}
-
-// The get of an input's source where it remains; N where it does not.
-fn source_left(table: &[u8], input: usize, marks: &[u8; 224]) -> usize
-    requires { ⌜ Sound (now table) ⌝ }
-    requires { ⌜ input < inputs (now table) ⌝ }
-    ensures { λ r. ⌜ r ≡ sourceLeft (shapeOf (now (table .entry))) (now (marks .entry)) input ⌝ }
-{
-    let get = unit_count(table) + byte(input_sources(table), input);
-    if marks[get] == 0 {
-        return get;
-    }
-    call_count(table)
+    set_of(table, gets[output])
 }
 
 // Of a set: the step of its unit where it is delayed, then its source's get.
-fn before_set(table: &[u8], input: usize, marks: &[u8; 224]) -> usize
+fn before_set(table: &[u8], input: usize, steps: &[u8; 32]) -> usize
     requires { ⌜ Sound (now table) ⌝ }
     requires { ⌜ input < inputs (now table) ⌝ }
+    requires { ⌜ length (placedOf (now table)) < callCount (now table) ⌝ }
+    requires { ⌜ T (not (among (placedOf (now table)) (setNo (shapeOf (now table)) input))) ⌝ }
+    requires { ⌜ LowSteps (now table) (among (placedOf (now table))) (now steps) ⌝ }
     ensures { λ r.
         ⌜ r ≡ lowestBefore (callCount (now (table .entry)))
         (precedes (shapeOf (now (table .entry))))
-        (marked (now (marks .entry))) (setNo (shapeOf (now (table .entry))) input) ⌝ }
+        (among (placedOf (now (table .entry)))) (setNo (shapeOf (now (table .entry))) input) ⌝ }
 {
-    if byte(input_kinds(table), input) != 0 {
-        return source_left(table, input, marks);
+    if byte(input_kinds(table), input) == 0 {
+        let step = byte(input_owners(table), input);
+        if step_left(table, step, steps) {
+            return step;
+        }
     }
-    let step = byte(input_owners(table), input);
-    if marks[step] == 0 {
-        return step;
-    }
-    source_left(table, input, marks)
+    unit_count(table) + byte(input_sources(table), input)
 }
 
-// The lowest remaining direct predecessor of a call; N where it has none.
-pub fn lowest_before(table: &[u8], call: usize, marks: &[u8; 224]) -> usize
+// The lowest remaining direct predecessor of a call that remains.
+pub fn lowest_before(table: &[u8], call: usize, steps: &[u8; 32], gets: &[u8; 96]) -> usize
     requires { ⌜ Sound (now table) ⌝ }
     requires { ⌜ call < callCount (now table) ⌝ }
+    requires { ⌜ length (placedOf (now table)) < callCount (now table) ⌝ }
+    requires { ⌜ T (not (among (placedOf (now table)) call)) ⌝ }
+    requires { ⌜ LowSteps (now table) (among (placedOf (now table))) (now steps) ⌝ }
+    requires { ⌜ LowGets (now table) (among (placedOf (now table))) (now gets) ⌝ }
     ensures { λ r.
         ⌜ r ≡ lowestBefore (callCount (now (table .entry)))
         (precedes (shapeOf (now (table .entry))))
-        (marked (now (marks .entry))) call ⌝ }
+        (among (placedOf (now (table .entry)))) call ⌝ }
 {
-    let kind = call_of(table, call);
+    let kind = call_in(
+        unit_count(table),
+        output_count(table),
+        input_count(table),
+        call,
+    );
     match kind {
-        Call::Step(unit) => before_step(table, unit, marks),
-        Call::Get(output) => before_get(table, output, marks),
-        Call::Set(input) => before_set(table, input, marks),
+        Call::Step(unit) => set_of(table, steps[unit]),
+        Call::Get(output) => before_get(table, output, steps, gets),
+        Call::Set(input) => before_set(table, input, steps),
         Call::NoCall => call,
     }
 }

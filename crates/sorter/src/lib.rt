@@ -1,5 +1,6 @@
 // The order of a table's calls, or the cycle shown.
 mod back;
+mod lows;
 pub mod order;
 mod show;
 mod walk;

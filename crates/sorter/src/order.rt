@@ -8,15 +8,18 @@ ghost use Rattle.table.specs.Sound.{Sound};
 ghost use Rattle.orders.specs.Walk.{among, upto};
 ghost use Rattle.orders.specs.Turn.{turn, lowestPlace};
 ghost use Rattle.placing.specs.Placing.{callCount, placedOf};
+ghost use Rattle.placing.specs.Thread.{chain};
 ghost use Rattle.sorter.specs.Ordering.{shownOf, ordering};
 ghost use Rattle.sorter.specs.OrderOrCycle.{OrderOrCycle};
 use crate::show::lowest_of;
 use crate::show::place_of;
 use crate::show::write_turned;
-use crate::walk::mark;
+use crate::walk::left_over;
 use crate::walk::walk_back;
-use placing::place::place_all;
+use placing::place::place;
+use placing::thread::write_back;
 use table::Answer;
+use table::check::first_refusal;
 use table::parts::call_count;
 
 // Writes what was seen up to the call met again, from its lowest call on; gives its length.
@@ -40,23 +43,32 @@ fn write_met(seen: &[u8], call: u8, count: u8, out: &mut [u8]) -> usize
 }
 
 // Writes the cycle of what remains at the front of `out`; gives its length.
-// `calls` holds the placed calls; once they are marked it serves as the walk's path.
-fn show_cycle(table: &[u8], count: usize, placed: usize, calls: &mut [u8], out: &mut [u8]) -> usize
+// `bytes` threads the placed calls; once they are marked it serves as the walk's path.
+fn show_cycle(
+    table: &[u8],
+    count: usize,
+    placed: usize,
+    last: u8,
+    bytes: &mut [u8; 224],
+    out: &mut [u8],
+) -> usize
     requires { ⌜ Sound (now table) ⌝ }
     requires { ⌜ count ≡ callCount (now table) ⌝ }
-    requires { ⌜ length (now calls) ≡ 224 ⌝ }
+    requires { ⌜ length (now bytes) ≡ 224 ⌝ }
     requires { ⌜ placed < count ⌝ }
-    requires { ⌜ take placed (now calls) ≡ placedOf (now table) ⌝ }
+    requires { ⌜ chain (now bytes) placed last ≡ placedOf (now table) ⌝ }
     requires { ⌜ count ≤ length (now out) ⌝ }
     ensures { λ r. ⌜ r ≡ length (shownOf (now (table .entry))) ⌝ }
     ensures { λ r. ⌜ now (out .exit) ≡ fronted (shownOf (now (table .entry))) (now (out .entry)) ⌝ }
 {
-    let mut marks: [u8; 224] = [0; 224];
-    mark(&calls[..placed], &mut marks);
-    let met = walk_back(table, count, &marks, calls);
+    let mut steps: [u8; 32] = [0; 32];
+    let mut gets: [u8; 96] = [0; 96];
+    let first = left_over(table, count, placed, last, bytes, &mut steps, &mut gets);
+    let met = walk_back(table, first, &steps, &gets, bytes);
     let at = met.at;
     let call = met.call;
-    write_met(&calls[at..], call as u8, count as u8, out)
+    let path = &bytes[..];
+    write_met(&path[at..], call as u8, count as u8, out)
 }
 
 // The first order at the front of `out`, or the cycle, or another refusal, which writes nothing.
@@ -69,12 +81,13 @@ pub fn order(table: &[u8], out: &mut [u8]) -> Answer
         ⌜ (Sound (now (table .entry)) → callCount (now (table .entry)) ≤ length (now (out .entry))
         → OrderOrCycle (now (table .entry)) r (take (r .place) (now (out .exit)))) ⌝ }
 {
-    let mut calls: [u8; 224] = [0; 224];
-    let answer = place_all(table, &mut calls);
-    if answer.number != 0 {
-        return answer;
+    let number = first_refusal(table);
+    if number != 0 {
+        return Answer {
+            number: number,
+            place: 0,
+        };
     }
-    let placed = answer.place;
     let count = call_count(table);
     if out.len() < count {
         return Answer {
@@ -82,14 +95,18 @@ pub fn order(table: &[u8], out: &mut [u8]) -> Answer
             place: 0,
         };
     }
-    if placed == count {
-        write_turned(&calls[..count], 0, out);
+    let mut bytes: [u8; 224] = [0; 224];
+    let placed = place(table, count, &mut bytes);
+    let many = placed.count;
+    let last = placed.last;
+    if many == count {
+        write_back(&bytes, last, count, out);
         return Answer {
             number: 0,
             place: count,
         };
     }
-    let length = show_cycle(table, count, placed, &mut calls, out);
+    let length = show_cycle(table, count, many, last, &mut bytes, out);
     Answer {
         number: 9,
         place: length,

@@ -1,7 +1,10 @@
--- Each public function's contract asks nothing and permits one answer, with every lent byte.
+-- Each public function's contract permits one answer, with every lent byte; those of `sound` ask
+-- for a sound table, all others nothing.
 use mathlib.Core.Path.{sym, refl, _∙_}
 use denote.Ref.{now}
-use Rattle.search.specs.Contracts.{Settles, SettlesSeen}
+use Rattle.search.specs.Contracts.{Settles, SettlesSeen, SettlesWhere}
+use Rattle.table.proofs.check.first_refusal.Kinds as first-refusal
+use Rattle.table.proofs.check.first_refusal.Reads as first-refusal-says
 use Rattle.table.proofs.check.check.Kinds as check
 use Rattle.table.proofs.check.check.Reads as check-says
 use Rattle.table.proofs.parts.byte.Kinds as byte
@@ -28,6 +31,28 @@ use Rattle.table.proofs.parts.input_sources.Kinds as input-sources
 use Rattle.table.proofs.parts.input_sources.Reads as input-sources-says
 use Rattle.table.proofs.parts.feed_pairs.Kinds as feed-pairs
 use Rattle.table.proofs.parts.feed_pairs.Reads as feed-pairs-says
+use Rattle.table.proofs.sound.unit_count.Kinds as sound-unit-count
+use Rattle.table.proofs.sound.unit_count.Reads as sound-unit-count-says
+use Rattle.table.proofs.sound.output_count.Kinds as sound-output-count
+use Rattle.table.proofs.sound.output_count.Reads as sound-output-count-says
+use Rattle.table.proofs.sound.input_count.Kinds as sound-input-count
+use Rattle.table.proofs.sound.input_count.Reads as sound-input-count-says
+use Rattle.table.proofs.sound.feed_count.Kinds as sound-feed-count
+use Rattle.table.proofs.sound.feed_count.Reads as sound-feed-count-says
+use Rattle.table.proofs.sound.output_owners.Kinds as sound-output-owners
+use Rattle.table.proofs.sound.output_owners.Reads as sound-output-owners-says
+use Rattle.table.proofs.sound.input_owners.Kinds as sound-input-owners
+use Rattle.table.proofs.sound.input_owners.Reads as sound-input-owners-says
+use Rattle.table.proofs.sound.input_kinds.Kinds as sound-input-kinds
+use Rattle.table.proofs.sound.input_kinds.Reads as sound-input-kinds-says
+use Rattle.table.proofs.sound.input_sources.Kinds as sound-input-sources
+use Rattle.table.proofs.sound.input_sources.Reads as sound-input-sources-says
+use Rattle.table.proofs.sound.feed_pairs.Kinds as sound-feed-pairs
+use Rattle.table.proofs.sound.feed_pairs.Reads as sound-feed-pairs-says
+
+pub first-refusal-settled : Settles first-refusal.ps first-refusal.r first-refusal-says.Asked
+    first-refusal-says.Learnt
+first-refusal-settled = ((λ κs a. tt), (λ κs a x y w v p q. (p ∙ sym q, refl)))
 
 pub check-settled : Settles check.ps check.r check-says.Asked check-says.Learnt
 check-settled = ((λ κs a. tt), (λ κs a x y w v p q. (p ∙ sym q, refl)))
@@ -78,3 +103,39 @@ input-sources-settled = ((λ κs a. tt), (λ κs a x y w v p q. (p ∙ sym q, re
 pub feed-pairs-settled : SettlesSeen feed-pairs.ps feed-pairs.r feed-pairs-says.Asked
     feed-pairs-says.Learnt (λ κs r. now r)
 feed-pairs-settled = ((λ κs a. tt), (λ κs a x y w v p q. (p ∙ sym q, refl)))
+
+pub sound-unit-count-settled : SettlesWhere sound-unit-count.ps sound-unit-count.r
+    sound-unit-count-says.Asked sound-unit-count-says.Learnt (λ κs r. r)
+sound-unit-count-settled κs a h x y w v p q = (p .0 ∙ sym (q .0), refl)
+
+pub sound-output-count-settled : SettlesWhere sound-output-count.ps sound-output-count.r
+    sound-output-count-says.Asked sound-output-count-says.Learnt (λ κs r. r)
+sound-output-count-settled κs a h x y w v p q = (p .0 ∙ sym (q .0), refl)
+
+pub sound-input-count-settled : SettlesWhere sound-input-count.ps sound-input-count.r
+    sound-input-count-says.Asked sound-input-count-says.Learnt (λ κs r. r)
+sound-input-count-settled κs a h x y w v p q = (p .0 ∙ sym (q .0), refl)
+
+pub sound-feed-count-settled : SettlesWhere sound-feed-count.ps sound-feed-count.r
+    sound-feed-count-says.Asked sound-feed-count-says.Learnt (λ κs r. r)
+sound-feed-count-settled κs a h x y w v p q = (p .0 ∙ sym (q .0), refl)
+
+pub sound-output-owners-settled : SettlesWhere sound-output-owners.ps sound-output-owners.r
+    sound-output-owners-says.Asked sound-output-owners-says.Learnt (λ κs r. now r)
+sound-output-owners-settled κs a h x y w v p q = (p ∙ sym q, refl)
+
+pub sound-input-owners-settled : SettlesWhere sound-input-owners.ps sound-input-owners.r
+    sound-input-owners-says.Asked sound-input-owners-says.Learnt (λ κs r. now r)
+sound-input-owners-settled κs a h x y w v p q = (p ∙ sym q, refl)
+
+pub sound-input-kinds-settled : SettlesWhere sound-input-kinds.ps sound-input-kinds.r
+    sound-input-kinds-says.Asked sound-input-kinds-says.Learnt (λ κs r. now r)
+sound-input-kinds-settled κs a h x y w v p q = (p ∙ sym q, refl)
+
+pub sound-input-sources-settled : SettlesWhere sound-input-sources.ps sound-input-sources.r
+    sound-input-sources-says.Asked sound-input-sources-says.Learnt (λ κs r. now r)
+sound-input-sources-settled κs a h x y w v p q = (p ∙ sym q, refl)
+
+pub sound-feed-pairs-settled : SettlesWhere sound-feed-pairs.ps sound-feed-pairs.r
+    sound-feed-pairs-says.Asked sound-feed-pairs-says.Learnt (λ κs r. now r)
+sound-feed-pairs-settled κs a h x y w v p q = (p ∙ sym q, refl)

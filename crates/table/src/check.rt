@@ -147,7 +147,7 @@ fn wiring(table: &[u8]) -> u8
 }
 
 // The number of the first check that fails, or 0.
-fn first_refusal(table: &[u8]) -> u8
+pub fn first_refusal(table: &[u8]) -> u8
     ensures { λ r. ⌜ r ≡ refusal (now (table .entry)) ⌝ }
 {
     if table.len() < 4 {

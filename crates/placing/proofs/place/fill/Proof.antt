@@ -1,5 +1,6 @@
 -- Five rules raise the counts from 0; their sum is `into` of every call (`filled`).
 use borrow.Author.Needs.{needs}
+use Rattle.calls.specs.Givens.{row-once, hits-le}
 use Rattle.placing.proofs.place.fill.Statement.{statement}
 use Rattle.placing.proofs.place.fill.Tie as tie
 use native.Mathlib.Omega.{arith}
@@ -8,7 +9,6 @@ use Prim.Native.Nat.{_+_}
 use lib.ListN.{length}
 use Rattle.table.specs.Layout.{long-kinds, long-input-owners, long-pairs}
 use Rattle.placing.specs.Less.{each, isKey, called, fed}
-use Rattle.placing.proofs.Parts.{row-once, hits-le}
 use Rattle.placing.proofs.Gives.{fits, fed-fits}
 use Rattle.placing.proofs.Filled.{filled}
 
@@ -242,27 +242,29 @@ returns c =
     let unit-count = at-input-kinds.before.before.unit-count in
     let start = at-input-kinds.before.before.before.before in
     let args = start.args in
-    let pre = start.pre in
-    filled args.table.now pre.0 unit-count.result (unit-count.result + output-count.result)
-    output-count.result input-count.result feed-count.result input-kinds.result.now
-    input-owners.result.now feed-pairs.result.now _ unit-count.ensures.0 output-count.ensures.0
-    (ap₂ _+_ unit-count.ensures.0 output-count.ensures.0) input-count.ensures.0 feed-count.ensures.0
-    input-kinds.ensures input-owners.ensures feed-pairs.ensures
-    (sym c.raise-keyed.ensures.long
-    ∙ sym raise-called.ensures.long
-    ∙ sym raise-fed.ensures.long
-    ∙ sym raise-range2.ensures.long
-    ∙ sym raise-range.ensures.long
-    ∙ pre.1.0)
-    (λ k. omega (
-      arith,
-      pre.1.1 k,
-      raise-range.ensures.less k,
-      raise-range2.ensures.less k,
-      raise-fed.ensures.less k,
-      raise-called.ensures.less k,
-      c.raise-keyed.ensures.less k,
-    ))
+    let pre = start.pre in (
+      sym c.raise-keyed.ensures.long
+          ∙ sym raise-called.ensures.long
+          ∙ sym raise-fed.ensures.long
+          ∙ sym raise-range2.ensures.long
+          ∙ sym raise-range.ensures.long
+          ∙ pre.1.0,
+      (λ k. filled args.table.now pre.0 unit-count.result
+          (unit-count.result + output-count.result) output-count.result input-count.result
+          feed-count.result input-kinds.result.now input-owners.result.now feed-pairs.result.now
+          unit-count.ensures.0 output-count.ensures.0
+          (ap₂ _+_ unit-count.ensures.0 output-count.ensures.0) input-count.ensures.0
+          feed-count.ensures.0 input-kinds.ensures input-owners.ensures feed-pairs.ensures k _
+          (omega (
+            arith,
+            pre.1.1 k,
+            raise-range.ensures.less k,
+            raise-range2.ensures.less k,
+            raise-fed.ensures.less k,
+            raise-called.ensures.less k,
+            c.raise-keyed.ensures.less k,
+          ))),
+    )
 
 pub fill-spec : {M : Type 1} → statement M
 fill-spec =

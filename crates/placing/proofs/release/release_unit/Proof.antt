@@ -3,103 +3,99 @@ use borrow.Author.Needs.{needs}
 use Rattle.placing.proofs.release.release_unit.Statement.{statement}
 use Rattle.placing.proofs.release.release_unit.Tie as tie
 use native.Mathlib.Omega.{arith}
-use mathlib.Core.Path.{ap, _∙_}
-use lib.ListN.{getD}
-use Rattle.placing.proofs.Gives.{own-none, own-some, own-lower, own-fits}
+use mathlib.Core.Path.{ap, sym, _∙_}
+use lib.ListN.{length, getD}
+use Rattle.table.specs.Layout.{long-kinds, long-input-owners}
+use Rattle.placing.proofs.Gives.{own-none, own-some, own-once, own-fits}
+use Rattle.placing.proofs.Lowering.{lowered-none, lowered-as}
 
 input-kinds-requires : tie.Need-input-kinds-requires
 input-kinds-requires c κs = search needs
 
-byte-requires : tie.Need-byte-requires
-byte-requires c κs = search needs
+shared-slice-read-if1 : tie.Need-shared-slice-read-if1
+shared-slice-read-if1 c =
+    let input-kinds = c.before.input-kinds in
+    let start = c.before.before.before in
+    let pre = start.pre in
+    let n = ap length input-kinds.ensures ∙ long-kinds start.args.table.now pre.0.long in
+    omega (arith, pre.1.0, n)
 
 input-owners-requires : tie.Need-input-owners-requires
 input-owners-requires c κs = search needs
 
-byte-requires-2 : tie.Need-byte-requires-2
-byte-requires-2 c κs = search needs
+shared-slice-read-lower : tie.Need-shared-slice-read-lower
+shared-slice-read-lower c =
+    let input-owners = c.before.input-owners in
+    let start = c.before.before.before.before.before.before in
+    let pre = start.pre in
+    let n = ap length input-owners.ensures ∙ long-input-owners start.args.table.now pre.0.long in
+    omega (arith, pre.1.0, n)
 
-element-copy-out-waiting : tie.Need-element-copy-out-waiting
-element-copy-out-waiting c =
+cast-lower : tie.Need-cast-lower
+cast-lower c =
     let input-owners = c.before.input-owners in
     let start = c.before.before.before.before.before.before in
     let args = start.args in
-    let pre = start.pre in
-    own-fits args.table.now pre.0 args.input c.byte2.result pre.1.0
-    (c.byte2.ensures.0 ∙ ap (λ l. getD l args.input 0) input-owners.ensures)
+    let o = ap (λ l. getD l args.input 0) input-owners.ensures in
+    let small = own-fits args.table.now start.pre.0 args.input _ start.pre.1.0 o in
+    record { fits = omega (arith, small) }
 
-sub-waiting : tie.Need-sub-waiting
-sub-waiting c =
-    let byte2 = c.before.byte2 in
-    let input-owners = c.before.before.input-owners in
-    let if1 = c.before.before.before.if1 in
-    let byte = c.before.before.before.before.byte in
-    let input-kinds = c.before.before.before.before.before.input-kinds in
-    let start = c.before.before.before.before.before.before.before in
+lower-requires : tie.Need-lower-requires
+lower-requires c κs =
+    let input-owners = c.before.before.before.input-owners in
+    let if1 = c.before.before.before.before.if1 in
+    let input-kinds = c.before.before.before.before.before.before.input-kinds in
+    let start = c.before.before.before.before.before.before.before.before in
     let args = start.args in
     let pre = start.pre in
-    let k = byte.ensures.0 ∙ ap (λ l. getD l args.input 0) input-kinds.ensures in
-    let o = byte2.ensures.0 ∙ ap (λ l. getD l args.input 0) input-owners.ensures in
-    omega (
-      arith,
-      pre.1.1.1 byte2.result,
-      own-some args.table.now pre.0 args.input byte.result byte2.result k if1.taken o,
+    let k = ap (λ l. getD l args.input 0) input-kinds.ensures in
+    let o = ap (λ l. getD l args.input 0) input-owners.ensures in
+    let unit = getD input-owners.result.now args.input 0 in (
+      pre.1.1.0,
+      (
+        pre.1.1.1.0,
+        (
+          own-fits args.table.now pre.0 args.input unit pre.1.0 o,
+          omega (
+            arith,
+            pre.1.1.1.1 unit,
+            own-some args.table.now pre.0 args.input _ unit k if1.taken o,
+          ),
+        ),
+      ),
     )
-
-element-write-waiting : tie.Need-element-write-waiting
-element-write-waiting c =
-    let byte2 = c.before.byte2 in
-    let input-owners = c.before.before.input-owners in
-    let start = c.before.before.before.before.before.before.before in
-    let args = start.args in
-    let pre = start.pre in
-    own-fits args.table.now pre.0 args.input byte2.result pre.1.0
-    (byte2.ensures.0 ∙ ap (λ l. getD l args.input 0) input-owners.ensures)
 
 returns : tie.Need-returns
 returns c =
-    let byte2 = c.before.byte2 in
-    let input-owners = c.before.before.input-owners in
-    let if1 = c.before.before.before.if1 in
-    let byte = c.before.before.before.before.byte in
-    let input-kinds = c.before.before.before.before.before.input-kinds in
-    let start = c.before.before.before.before.before.before.before in
+    let input-owners = c.before.before.before.before.input-owners in
+    let if1 = c.before.before.before.before.before.if1 in
+    let input-kinds = c.before.before.before.before.before.before.before.input-kinds in
+    let start = c.before.before.before.before.before.before.before.before.before in
     let args = start.args in
     let pre = start.pre in
-    let k = byte.ensures.0 ∙ ap (λ l. getD l args.input 0) input-kinds.ensures in
-    let o = byte2.ensures.0 ∙ ap (λ l. getD l args.input 0) input-owners.ensures in
-    own-lower args.table.now pre.0 args.input byte.result byte2.result args.waiting.now k if1.taken
-    o (omega (arith, pre.1.1.0, own-fits args.table.now pre.0 args.input byte2.result pre.1.0 o))
-    (omega (
-      arith,
-      pre.1.1.1 byte2.result,
-      own-some args.table.now pre.0 args.input byte.result byte2.result k if1.taken o,
-    ))
+    let k = ap (λ l. getD l args.input 0) input-kinds.ensures in
+    let o = ap (λ l. getD l args.input 0) input-owners.ensures in
+    lowered-as _ _ _ _ _ _
+    (λ x. sym (own-once args.table.now pre.0 args.input _ _ k if1.taken o x)) c.lower.ensures
 
 returns-2 : tie.Need-returns-2
 returns-2 c =
-    let byte = c.before.byte in
     let input-kinds = c.before.before.input-kinds in
     let start = c.before.before.before.before in
     let args = start.args in
     let pre = start.pre in
-    let k = byte.ensures.0 ∙ ap (λ l. getD l args.input 0) input-kinds.ensures in
-    record {
-      long = search needs;
-      less =
-          λ m. omega (arith, own-none args.table.now pre.0 args.input byte.result k c.if1.left m);
-    }
+    let k = ap (λ l. getD l args.input 0) input-kinds.ensures in
+    lowered-none _ _ _ (own-none args.table.now pre.0 args.input _ k c.if1.left) pre.1.1.1.0
 
 pub release-unit-spec : {M : Type 1} → statement M
 release-unit-spec =
     tie.close
     (tie.spec
     input-kinds-requires
-    byte-requires
+    shared-slice-read-if1
     input-owners-requires
-    byte-requires-2
-    element-copy-out-waiting
-    sub-waiting
-    element-write-waiting
+    shared-slice-read-lower
+    cast-lower
+    lower-requires
     returns
     returns-2)

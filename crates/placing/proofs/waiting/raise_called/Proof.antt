@@ -1,4 +1,5 @@
 -- A turn raises one count or none: `raise-hit` and `less-miss` carry the loop.
+use Rattle.calls.specs.Hits.{hits}
 use Rattle.placing.proofs.waiting.raise_called.Statement.{statement}
 use Rattle.placing.proofs.waiting.raise_called.Tie as tie
 use borrow.Author.Needs.{needs}
@@ -6,7 +7,7 @@ use Prim.Native.Nat.{_-_, _≤_}
 use lib.ListN.{length}
 use native.Mathlib.Omega.{arith}
 use Rattle.search.specs.Truth.{eq-true, eq-false}
-use Rattle.placing.specs.Less.{isKey, called, hits, Less}
+use Rattle.placing.specs.Less.{isKey, called, Less}
 use Rattle.placing.proofs.Hits.{less-none, less-all, raise-room, raise-hit, less-miss}
 use mathlib.Core.Logic.{⊎-elim}
 

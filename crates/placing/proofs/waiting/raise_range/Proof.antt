@@ -1,10 +1,11 @@
 -- Each turn raises one count: `raise-hit` carries the loop.
+use Rattle.calls.specs.Hits.{nth, hits}
 use Rattle.placing.proofs.waiting.raise_range.Statement.{statement}
 use Rattle.placing.proofs.waiting.raise_range.Tie as tie
 use borrow.Author.Needs.{needs}
 use Prim.Native.Nat.{_-_, _≤_}
 use native.Mathlib.Omega.{arith}
-use Rattle.placing.specs.Less.{each, nth, hits, Less}
+use Rattle.placing.specs.Less.{each, Less}
 use Rattle.placing.proofs.Hits.{less-none, less-all, raise-room, raise-hit}
 
 abbrev Inv-loop : tie.InvT-loop

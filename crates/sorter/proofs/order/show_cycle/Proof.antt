@@ -1,56 +1,40 @@
--- What is marked was placed, and what the walk met, turned, is what is shown (`met-shown`).
+-- What the walk met, turned, is what is shown (`met-shown`).
 use borrow.Author.Needs.{needs}
 use Rattle.sorter.proofs.order.show_cycle.Statement.{statement}
 use Rattle.sorter.proofs.order.show_cycle.Tie as tie
-use Prim.Native.Nat.{ℕ, _<_}
-use mathlib.Core.Path.{refl, sym, ap, subst, _∙_}
 use native.Mathlib.Omega.{arith}
+use Prim.Native.Nat.{ℕ, _<_}
+use mathlib.Core.Path.{sym, ap, subst, _∙_}
 use lib.Dec.{T}
 use lib.ListN.{length, getD}
-use lib.Seq.{length-take-le}
 use Rattle.search.specs.Front.{fronted}
 use Rattle.table.specs.Checked.{few-calls}
 use Rattle.orders.specs.Walk.{among}
-use Rattle.placing.proofs.Stage.{zeros}
-use Rattle.sorter.proofs.Showing.{placed-few, placed-long, path-rest}
-use Rattle.sorter.proofs.Showing.{path-few, met-shown, met-call}
+use Rattle.placing.proofs.Threads.{chain-long}
+use Rattle.sorter.proofs.Showing.{path-rest, path-few, met-shown, met-call}
 
-slice-reshare-prefix-mark : tie.Need-slice-reshare-prefix-mark
-slice-reshare-prefix-mark c =
-    let start = c.before.before.before in
-    let args = start.args in
-    let pre = start.pre in
-    let few = few-calls args.table.now pre.0 in omega (arith, pre.1.0, pre.1.1.0, pre.1.1.1.0, few)
-
-slice-aggregate-mark : tie.Need-slice-aggregate-mark
-slice-aggregate-mark c =
-    let start = c.before.before.before.before in
-    let args = start.args in
-    let pre = start.pre in
-    let few = few-calls args.table.now pre.0 in
-    let fits = pre.1.1.1.0 in
-    sym (length-take-le args.placed args.calls.now (omega (arith, pre.1.0, pre.1.1.0, fits, few)))
-
-mark-requires : tie.Need-mark-requires
-mark-requires c κs =
-    let start = c.before.before.before.before.before in
-    let args = start.args in
-    let pre = start.pre in
-    (refl, (zeros 224, placed-few args.table.now _ pre.1.1.1.1.0 (few-calls args.table.now pre.0)))
+left-over-requires : tie.Need-left-over-requires
+left-over-requires c κs =
+    let pre = c.before.before.before.before.before.pre in
+    (pre.0, (pre.1.0, (pre.1.1.1.1.0, search needs)))
 
 walk-back-requires : tie.Need-walk-back-requires
 walk-back-requires c κs =
-    let mark = c.before.before.mark in
-    let start = c.before.before.before.before.before.before.before.before in
+    let left-over = c.before.before.before.left-over in
+    let start = c.before.before.before.before.before.before.before.before.before in
     let args = start.args in
     let pre = start.pre in
-    let few = few-calls args.table.now pre.0 in
-    let some = pre.1.1.1.0 in
-    let early =
-    placed-long args.table.now _ args.placed pre.1.1.1.1.0
-    (omega (arith, some, pre.1.0, pre.1.1.0, few)) in
-    let marks = mark.ensures ∙ ap among pre.1.1.1.1.0 in
-    (pre.0, (pre.1.0, (omega (arith, early, some), (marks, pre.1.1.0))))
+    let many =
+    sym (ap length pre.1.1.1.1.0) ∙ chain-long args.bytes.now args.placed args.last in (
+      pre.0,
+      (
+        omega (arith, many, pre.1.0, pre.1.1.1.0),
+        (
+          left-over.ensures.0,
+          (left-over.ensures.1.0, (left-over.ensures.1.1, pre.1.1.0)),
+        ),
+      ),
+    )
 
 sub-write-met : tie.Need-sub-write-met
 sub-write-met c = search needs
@@ -63,9 +47,9 @@ part-write-met-end c = search needs
 
 cast-write-met : tie.Need-cast-write-met
 cast-write-met c =
-    let at-walk-back = c.before.before.before.before in
-    let walk-back = at-walk-back.walk-back in
-    let start = at-walk-back.before.before.before.before.before.before.before.before.before in
+    let walk-back = c.before.before.before.walk-back in
+    let far = c.before.before.before.before.before.before.before.before in
+    let start = far.before.before.before.before.before in
     let args = start.args in
     let pre = start.pre in
     record {
@@ -78,17 +62,15 @@ cast-write-met c =
 
 cast-write-met-2 : tie.Need-cast-write-met-2
 cast-write-met-2 c =
-    let start = c .before .before .before .before .before .before .before .before .before .before
-    .before .before .before in
-    let args = start.args in
-    let pre = start.pre in
-    record { fits = omega (arith, pre.1.0, few-calls args.table.now pre.0) }
+    let far = c.before.before.before.before.before.before.before.before in
+    let start = far.before.before.before.before.before in
+    record { fits = omega (arith, start.pre.1.0, few-calls start.args.table.now start.pre.0) }
 
 write-met-requires : tie.Need-write-met-requires
 write-met-requires c κs =
-    let at-walk-back = c.before.before.before.before.before in
-    let walk-back = at-walk-back.walk-back in
-    let start = at-walk-back.before.before.before.before.before.before.before.before.before in
+    let walk-back = c.before.before.before.before.walk-back in
+    let far = c.before.before.before.before.before.before.before.before in
+    let start = far.before.before.before.before.before.before in
     let args = start.args in
     let pre = start.pre in
     let rest = path-rest args.table.now _ _ _ walk-back.ensures in (
@@ -109,15 +91,12 @@ write-met-requires c κs =
 same-length : tie.Need-same-length
 same-length c = search needs
 
-same-length-2 : tie.Need-same-length-2
-same-length-2 c = search needs
-
 returns : tie.Need-returns
 returns c =
     let write-met = c.before.before.write-met in
-    let at-walk-back = c.before.before.before.before.before.before.before.before in
-    let walk-back = at-walk-back.walk-back in
-    let start = at-walk-back.before.before.before.before.before.before.before.before.before in
+    let walk-back = c.before.before.before.before.before.before.before.walk-back in
+    let far = c.before.before.before.before.before.before.before.before in
+    let start = far.before.before.before.before.before.before.before.before.before in
     let args = start.args in
     let pre = start.pre in
     let shown = met-shown args.table.now _ _ _ walk-back.ensures _ pre.1.0 in (
@@ -129,9 +108,7 @@ pub show-cycle-spec : {M : Type 1} → statement M
 show-cycle-spec =
     tie.close
     (tie.spec
-    slice-reshare-prefix-mark
-    slice-aggregate-mark
-    mark-requires
+    left-over-requires
     walk-back-requires
     sub-write-met
     part-write-met-start
@@ -140,5 +117,4 @@ show-cycle-spec =
     cast-write-met-2
     write-met-requires
     same-length
-    same-length-2
     returns)

@@ -1,66 +1,73 @@
--- What is marked is what was passed (`mark-on`).
+-- What is marked and what is to come on the thread are all its calls (`marking-on`).
 use Rattle.sorter.proofs.walk.mark.Statement.{statement}
 use Rattle.sorter.proofs.walk.mark.Tie as tie
 use borrow.Author.Needs.{needs}
-use Prim.Native.Nat.{_-_, _≤_}
-use mathlib.Core.Path.{_≡_, _∙_}
+use Prim.Native.Nat.{_-_}
+use mathlib.Core.Path.{sym, subst}
+use lib.ListN.{getD}
 use native.Mathlib.Omega.{arith}
-use lib.ListN.{length, getD, take, length-set}
-use Rattle.orders.specs.Walk.{among}
-use Rattle.sorter.specs.Marks.{marked}
-use Rattle.sorter.proofs.Trails.{marked-none, mark-on, mark-all}
+use Rattle.sorter.proofs.Trails.{Marking, marking-starts, marking-call}
+use Rattle.sorter.proofs.Trails.{marking-on, marking-ends}
 
 abbrev Inv-loop : tie.InvT-loop
-Inv-loop calls marks₀ i₀ marks i =
-    (i ≤ length calls) × (length marks ≡ 224) × (marked marks ≡ among (take i calls))
+Inv-loop bytes last count marks₀ n₀ c₀ marks n c = Marking bytes count last marks n c
 
 abbrev μ-loop : tie.MeasureT-loop
-μ-loop calls marks₀ i₀ marks i = length calls - i
+μ-loop bytes last count marks₀ n₀ c₀ marks n c = n
 
 loop-holds : tie.Need-loop-holds Inv-loop μ-loop
-loop-holds c = (search needs, c.pre.0, marked-none c.args.marks.now c.pre.1.0)
+loop-holds c =
+    let args = c.args in
+    marking-starts args.bytes.now args.count args.last args.marks.now c.pre.0 c.pre.1.0
 
-shared-slice-read-marks : tie.Need-shared-slice-read-marks Inv-loop μ-loop
-shared-slice-read-marks c = search needs
+sub-n : tie.Need-sub-n Inv-loop μ-loop
+sub-n c = search needs
 
-cast-marks : tie.Need-cast-marks Inv-loop μ-loop
-cast-marks c =
+cast-put : tie.Need-cast-put Inv-loop μ-loop
+cast-put c =
     let loop-test = c.before.loop-test in
     let loop = c.before.before.loop in
     let pre = c.before.before.before.pre in
-    record { fits = omega (arith, pre.1.1 loop.i loop-test.taken) }
+    let small = pre.1.1 loop.c (marking-call _ _ _ _ _ _ loop.inv loop-test.taken) in
+    record { fits = omega (arith, small) }
 
-element-write-marks : tie.Need-element-write-marks Inv-loop μ-loop
-element-write-marks c =
-    let loop-test = c.before.loop-test in
-    let loop = c.before.before.loop in
-    let pre = c.before.before.before.pre in
-    pre.1.1 loop.i loop-test.taken
+put-requires : tie.Need-put-requires Inv-loop μ-loop
+put-requires c κs = search needs
 
-add-i : tie.Need-add-i Inv-loop μ-loop
-add-i c = search needs
+cast-c : tie.Need-cast-c Inv-loop μ-loop
+cast-c c =
+    let loop-test = c.before.before.loop-test in
+    let loop = c.before.before.before.loop in
+    let pre = c.before.before.before.before.pre in
+    let small = pre.1.1 loop.c (marking-call _ _ _ _ _ _ loop.inv loop-test.taken) in
+    record { fits = omega (arith, small) }
+
+element-copy-out-c : tie.Need-element-copy-out-c Inv-loop μ-loop
+element-copy-out-c c =
+    let loop-test = c.before.before.loop-test in
+    let loop = c.before.before.before.loop in
+    let pre = c.before.before.before.before.pre in
+    pre.1.1 loop.c (marking-call _ _ _ _ _ _ loop.inv loop-test.taken)
 
 loop-less : tie.Need-loop-less Inv-loop μ-loop
 loop-less c = search needs
 
 loop-again : tie.Need-loop-again Inv-loop μ-loop
 loop-again c =
-    let loop-test = c.before.loop-test in
-    let loop = c.before.before.loop in
-    let start = c.before.before.before in
+    let put = c.before.put in
+    let loop-test = c.before.before.before.loop-test in
+    let loop = c.before.before.before.before.loop in
+    let start = c.before.before.before.before.before in
     let args = start.args in
-    let pre = start.pre in (
-      search needs,
-      length-set loop.marks (getD args.calls.now loop.i 0) 1 ∙ loop.inv.1,
-      mark-on args.calls.now loop.marks loop.i loop-test.taken
-          (omega (arith, loop.inv.1, pre.1.1 loop.i loop-test.taken)) loop.inv.2,
-    )
+    let pre = start.pre in
+    let small = pre.1.1 loop.c (marking-call _ _ _ _ _ _ loop.inv loop-test.taken) in
+    subst (λ l. Marking args.bytes.now args.count args.last l (loop.n - 1)
+    (getD args.bytes.now loop.c 0)) (sym put.ensures)
+    (marking-on _ _ _ _ _ _ loop.inv loop-test.taken small)
 
 returns : tie.Need-returns Inv-loop μ-loop
 returns c =
-    let loop = c.before.loop in
-    let args = c.before.before.args in
-    mark-all args.calls.now loop.marks loop.i c.loop-test.left loop.inv.2
+    let loop = c.before.loop in marking-ends _ _ _ _ _ _ loop.inv c.loop-test.left
 
 pub mark-spec : {M : Type 1} → statement M
 mark-spec =
@@ -69,10 +76,11 @@ mark-spec =
     Inv-loop
     μ-loop
     loop-holds
-    shared-slice-read-marks
-    cast-marks
-    element-write-marks
-    add-i
+    sub-n
+    cast-put
+    put-requires
+    cast-c
+    element-copy-out-c
     loop-less
     loop-again
     returns)

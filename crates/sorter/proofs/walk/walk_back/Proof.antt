@@ -1,138 +1,121 @@
 -- The trail holds at the start and after each call, and is met again where the walk ends.
+use borrow.Author.Needs.{needs}
 use Rattle.sorter.proofs.walk.walk_back.Statement.{statement}
 use Rattle.sorter.proofs.walk.walk_back.Tie as tie
-use Prim.Native.Nat.{_<_}
-use mathlib.Core.Path.{refl, sym, _∙_}
 use native.Mathlib.Omega.{arith}
-use lib.ListN.{length}
+use mathlib.Core.Path.{sym, subst}
+use Prim.Native.Nat.{_-_}
+use lib.ListN.{set}
+use borrow.Author.Tests.{not-true, not-false}
+use Rattle.search.specs.Truth.{says, denies}
+use Rattle.bits.specs.Laws.{empty-words, empty-has}
 use Rattle.table.specs.Checked.{few-calls}
-use Rattle.placing.specs.Placing.{callCount, placedOf}
-use Rattle.placing.proofs.Stage.{zeros}
-use Rattle.sorter.proofs.Trails.{Trail, trail-starts, trail-room}
-use Rattle.sorter.proofs.Trails.{trail-on, trail-met, left-is, before-is}
+use Rattle.sorter.proofs.Trails.{Trail, trail-starts, trail-room, trail-on, trail-met}
 
 abbrev Inv-loop : tie.InvT-loop
-Inv-loop table count marks path₀ seen₀ at₀ call₀ path seen at call = Trail table path seen at call
+Inv-loop table first steps gets path₀ seen₀ at₀ call₀ path seen at call =
+    Trail table path seen at call
 
 abbrev μ-loop : tie.MeasureT-loop
-μ-loop table count marks path₀ seen₀ at₀ call₀ path seen at call = at
-
-lowest-left-requires : tie.Need-lowest-left-requires Inv-loop μ-loop
-lowest-left-requires c κs =
-    let args = c.before.before.args in
-    let pre = c.before.before.pre in
-    omega (arith, pre.1.0, few-calls args.table.now pre.0)
+μ-loop table first steps gets path₀ seen₀ at₀ call₀ path seen at call = at
 
 loop-holds : tie.Need-loop-holds Inv-loop μ-loop
 loop-holds c =
-    let start = c.before.before.before in
+    let start = c.before in
     let args = start.args in
     let pre = start.pre in
-    let early : length (placedOf args.table.now) < callCount args.table.now =
-    omega (arith, pre.1.0, pre.1.1.0) in
-    trail-starts args.table.now early args.path.now _ _ pre.1.1.1.1 refl (zeros 224)
-    (left-is args.table.now args.marks.now _ _ pre.1.0 pre.1.1.1.0 c.lowest-left.ensures)
+    trail-starts args.table.now pre.1.0 args.path.now _ _ pre.1.1.1.1.1 empty-words empty-has
+    pre.1.1.0
 
-array-read-loop : tie.Need-array-read-loop Inv-loop μ-loop
-array-read-loop c =
-    let start = c.before.before.before.before in
-    let args = start.args in
-    let pre = start.pre in
-    let few = few-calls args.table.now pre.0 in omega (arith, c.loop.inv.here, few)
+has-requires : tie.Need-has-requires Inv-loop μ-loop
+has-requires c κs = search needs
 
 sub-at : tie.Need-sub-at Inv-loop μ-loop
 sub-at c =
-    let loop = c.before.loop in
+    let has = c.before.has in
+    let loop = c.before.before.before.loop in
     let start = c.before.before.before.before.before in
     let args = start.args in
     let pre = start.pre in
-    let early : length (placedOf args.table.now) < callCount args.table.now =
-    omega (arith, pre.1.0, pre.1.1.0) in
+    let early = pre.1.0 in
     let few = few-calls args.table.now pre.0 in
-    let trail = loop.inv in trail-room args.table.now early few _ _ _ _ trail c.loop-test.taken
+    trail-room args.table.now early few _ _ _ _ loop.inv
+    (denies has.ensures (not-true _ c.if1.taken))
 
 cast-path : tie.Need-cast-path Inv-loop μ-loop
 cast-path c =
-    let loop = c.before.loop in
+    let loop = c.before.before.before.loop in
     let start = c.before.before.before.before.before in
-    let args = start.args in
-    let pre = start.pre in
-    let few = few-calls args.table.now pre.0 in record { fits = omega (arith, loop.inv.here, few) }
+    let few = few-calls start.args.table.now start.pre.0 in
+    record { fits = omega (arith, loop.inv.here, few) }
 
-slice-write-path : tie.Need-slice-write-path Inv-loop μ-loop
-slice-write-path c =
-    let loop = c.before.loop in
+element-write-path : tie.Need-element-write-path Inv-loop μ-loop
+element-write-path c =
+    let has = c.before.has in
+    let loop = c.before.before.before.loop in
     let start = c.before.before.before.before.before in
     let args = start.args in
     let pre = start.pre in
-    let early : length (placedOf args.table.now) < callCount args.table.now =
-    omega (arith, pre.1.0, pre.1.1.0) in
+    let early = pre.1.0 in
     let few = few-calls args.table.now pre.0 in
-    let trail = loop.inv in
     omega (
       arith,
-      trail.place,
-      trail.long,
-      trail-room args.table.now early few _ _ _ _ trail c.loop-test.taken,
+      loop.inv.place,
+      trail-room args.table.now early few _ _ _ _ loop.inv
+          (denies has.ensures (not-true _ c.if1.taken)),
     )
 
-array-write-seen : tie.Need-array-write-seen Inv-loop μ-loop
-array-write-seen c =
-    let loop = c.before.loop in
-    let start = c.before.before.before.before.before in
-    let args = start.args in
-    let pre = start.pre in
-    let few = few-calls args.table.now pre.0 in omega (arith, loop.inv.here, few)
+put-requires : tie.Need-put-requires Inv-loop μ-loop
+put-requires c κs = search needs
 
 lowest-before-requires : tie.Need-lowest-before-requires Inv-loop μ-loop
 lowest-before-requires c κs =
-    let loop = c.before.loop in
-    let pre = c.before.before.before.before.before.pre in
-    (pre.0, loop.inv.here)
+    let loop = c.before.before.before.before.before.loop in
+    let pre = c.before.before.before.before.before.before.before.pre in
+    (pre.0, (loop.inv.here, (pre.1.0, (loop.inv.waits, (pre.1.1.1.0, pre.1.1.1.1.0)))))
 
 loop-less : tie.Need-loop-less Inv-loop μ-loop
 loop-less c =
-    let loop-test = c.before.loop-test in
-    let loop = c.before.before.loop in
-    let start = c.before.before.before.before.before.before in
+    let if1 = c.before.before.before.if1 in
+    let has = c.before.before.before.before.has in
+    let loop = c.before.before.before.before.before.before.loop in
+    let start = c.before.before.before.before.before.before.before.before in
     let args = start.args in
     let pre = start.pre in
-    let early : length (placedOf args.table.now) < callCount args.table.now =
-    omega (arith, pre.1.0, pre.1.1.0) in
+    let early = pre.1.0 in
     let few = few-calls args.table.now pre.0 in
-    let trail = loop.inv in
-    omega (arith, trail-room args.table.now early few _ _ _ _ trail loop-test.taken)
+    omega (
+      arith,
+      trail-room args.table.now early few _ _ _ _ loop.inv
+          (denies has.ensures (not-true _ if1.taken)),
+    )
 
 loop-again : tie.Need-loop-again Inv-loop μ-loop
 loop-again c =
-    let loop-test = c.before.loop-test in
-    let loop = c.before.before.loop in
-    let start = c.before.before.before.before.before.before in
+    let put = c.before.put in
+    let if1 = c.before.before.before.if1 in
+    let has = c.before.before.before.before.has in
+    let loop = c.before.before.before.before.before.before.loop in
+    let start = c.before.before.before.before.before.before.before.before in
     let args = start.args in
     let pre = start.pre in
-    let early : length (placedOf args.table.now) < callCount args.table.now =
-    omega (arith, pre.1.0, pre.1.1.0) in
+    let early = pre.1.0 in
     let few = few-calls args.table.now pre.0 in
-    let trail = loop.inv in
-    trail-on args.table.now early few _ _ _ _ trail _ loop-test.taken
-    (before-is args.table.now args.marks.now _ _ pre.1.1.1.0 c.lowest-before.ensures)
-
-same-length : tie.Need-same-length Inv-loop μ-loop
-same-length c =
-    let loop = c.before.loop in
-    let pre = c.before.before.before.before.before.pre in
-    loop.inv.long ∙ sym pre.1.1.1.1
+    subst (λ l. Trail args.table.now (set loop.path (loop.at - 1) loop.call) l (loop.at - 1)
+    c.lowest-before.result) (sym put.ensures)
+    (trail-on args.table.now early few _ _ _ _ loop.inv _
+    (denies has.ensures (not-true _ if1.taken)) c.lowest-before.ensures)
 
 returns : tie.Need-returns Inv-loop μ-loop
 returns c =
-    let loop = c.before.loop in
+    let has = c.before.has in
+    let loop = c.before.before.before.loop in
     let start = c.before.before.before.before.before in
     let args = start.args in
     let pre = start.pre in
-    let early : length (placedOf args.table.now) < callCount args.table.now =
-    omega (arith, pre.1.0, pre.1.1.0) in
+    let early = pre.1.0 in
     let few = few-calls args.table.now pre.0 in
-    let trail = loop.inv in trail-met args.table.now early few _ _ _ _ trail c.loop-test.left
+    trail-met args.table.now early few _ _ _ _ loop.inv (says has.ensures (not-false _ c.if1.left))
 
 pub walk-back-spec : {M : Type 1} → statement M
 walk-back-spec =
@@ -140,15 +123,13 @@ walk-back-spec =
     (tie.spec
     Inv-loop
     μ-loop
-    lowest-left-requires
     loop-holds
-    array-read-loop
+    has-requires
     sub-at
     cast-path
-    slice-write-path
-    array-write-seen
+    element-write-path
+    put-requires
     lowest-before-requires
     loop-less
     loop-again
-    same-length
     returns)

@@ -1,0 +1,2 @@
+-- What the contracts settle.
+pub mod Settled

@@ -1,0 +1,56 @@
+-- A sound table has the length that its counts ask.
+use borrow.Author.Needs.{needs}
+use Rattle.table.proofs.sound.input_kinds.Statement.{statement}
+use Rattle.table.proofs.sound.input_kinds.Tie as tie
+use native.Mathlib.Omega.{arith}
+use native.Mathlib.Nat.{add-sub-cancel-left}
+use Rattle.table.specs.Packed.{kinds, asked}
+
+input-count-requires : tie.Need-input-count-requires
+input-count-requires c κs = search needs
+
+output-count-requires : tie.Need-output-count-requires
+output-count-requires c κs = search needs
+
+add-a : tie.Need-add-a
+add-a c = search needs
+
+add-a-2 : tie.Need-add-a-2
+add-a-2 c = search needs
+
+add-result : tie.Need-add-result
+add-result c = search needs
+
+sub-result : tie.Need-sub-result
+sub-result c = search needs
+
+part-result-start : tie.Need-part-result-start
+part-result-start c = search needs
+
+part-result-end : tie.Need-part-result-end
+unfolding asked
+part-result-end c =
+    let input-count = c.before.input-count in
+    let pre = c.before.before.before.pre in
+    omega (arith, pre.long, c.output-count.ensures.0, input-count.ensures.0)
+
+returns : tie.Need-returns
+unfolding kinds
+returns c =
+    let output-count = c.before.output-count in
+    let input-count = c.before.before.input-count in
+    rw (add-sub-cancel-left, ← output-count.ensures.0, ← input-count.ensures.0)
+
+pub input-kinds-spec : {M : Type 1} → statement M
+input-kinds-spec =
+    tie.close
+    (tie.spec
+    input-count-requires
+    output-count-requires
+    add-a
+    add-a-2
+    add-result
+    sub-result
+    part-result-start
+    part-result-end
+    returns)
