@@ -1,12 +1,11 @@
 -- The cycle that the walk met, as a part of its path; and what it is turned to.
-use mathlib.Core.Path.{_≡_, refl, sym, ap, subst, _∙_}
-use mathlib.Core.List.{List, [], _∷_}
-use Prim.Native.Nat.{ℕ, zero, suc, _+_, _-_, _≤_, _<_}
-use native.Mathlib.Numerals.{add-one}
+use mathlib.Core.Path.{_≡_, sym, ap, subst, _∙_}
+use mathlib.Core.List.{List}
+use Prim.Native.Nat.{ℕ, suc, _+_, _-_, _≤_, _<_}
 use native.Mathlib.Omega.{arith}
 use native.Mathlib.Decide.{decLt}
 use lib.Dec.{T, eqb, eqb→eq}
-use lib.ListN.{length, getD, take, drop, length-drop, length-append}
+use lib.ListN.{length, getD, take, drop, length-drop}
 use lib.Seq.{length-take-le, getD-take, take-all}
 use Rattle.search.specs.Truth.{clash, eq-true}
 use Rattle.search.specs.Least.{leastFrom, lowest-is}
@@ -19,7 +18,6 @@ use Rattle.orders.specs.Turned.{turn-length, lowestPlace-is, at-among}
 use Rattle.orders.specs.Remains.{placed-calls}
 use Rattle.placing.specs.Less.{isKey}
 use Rattle.placing.specs.Placing.{callCount, placedOf}
-use Rattle.placing.specs.Thread.{chain}
 use Rattle.sorter.specs.Trail.{Walked}
 use Rattle.sorter.specs.Ordering.{shownOf}
 
@@ -81,13 +79,6 @@ unfolding placedOf
 placed-below t placed e f c h =
     let (i, l, p) = at-among c (placedOf t) (subst (λ k. T (among k c)) e h) in
     omega (arith, p, placed-calls (callCount t) (precedes (shapeOf t)) i l)
-
-pub chain-long : (bytes : List ℕ) (n c : ℕ) → length (chain bytes n c) ≡ n
-unfolding chain
-chain-long bytes zero c = refl
-chain-long bytes (suc n) c =
-    length-append (chain bytes n (getD bytes c 0)) (c ∷ [])
-    ∙ rw (chain-long bytes n (getD bytes c 0), add-one)
 
 -- ---- what is shown of where the walk ends
 module _ (t path : List ℕ) (at call : ℕ) (w : Walked t path at call) where
