@@ -6,7 +6,7 @@ use Prim.Native.Nat.{ℕ, _+_, _≤_, _<_}
 use native.Mathlib.Omega.{arith}
 use native.Mathlib.Decide.{ℕ-discrete}
 use lib.Dec.{T, not-T}
-use Rattle.search.specs.Truth.{T-and, and-T, either, clash, is-true, is-false}
+use Rattle.search.specs.Truth.{T-and, and-T, clash}
 use Rattle.search.specs.Least.{leastFrom, lowest-is, lowest-one}
 use Rattle.table.specs.Shape.{Shape, total, Wired}
 use Rattle.calls.specs.Number.{getNo, setNo}
@@ -16,7 +16,7 @@ use Rattle.calls.specs.Neighbours.{step-get-holds, get-set-holds, set-get-holds
 use Rattle.calls.specs.Neighbours.{step-set-holds, before-step, before-get, before-set}
 use Rattle.orders.specs.Sort.{lacks}
 use Rattle.orders.specs.Walk.{lowestBefore}
-use Rattle.sorter.specs.Marks.{keepsStep, keepsGet, sourceLeft}
+use Rattle.sorter.specs.Keeps.{keepsStep, keepsGet}
 
 module _ (s : Shape) (ok : Wired s) (done : ℕ → Bool) where
   -- what stands at r, with nothing below it, is the lowest
@@ -104,30 +104,18 @@ module _ (s : Shape) (ok : Wired s) (done : ℕ → Bool) where
         | inr (z, e) ↦ omega arith
       ])
 
-  pub set-source : (x : ℕ) → x < s .inputs → (s .kind x ≡ 0 → T (done (s .inputOwner x)))
-      → sourceLeft s done x ≡ lowestBefore (total s) (precedes s) (done) (setNo s x)
-  unfolding sourceLeft
-  set-source x h d = elim (either (done (getNo s (s .source x)))) [
-    | inl t ↦
-        rw (is-true (done (getNo s (s .source x))) t)
-        (lowest-at (setNo s x) (total s) (omega arith) (λ g. absurd (omega arith))
-        (λ a g p m. elim (before-set s x a h (omega arith) p) [
-          | inl e ↦ clash (done (getNo s (s .source x))) t
-              (subst (λ w. T (not (done w))) e m)
-          | inr (z, e) ↦ clash (done (s .inputOwner x)) (d z)
-              (subst (λ w. T (not (done w))) e m)
-        ]))
-    | inr t ↦
-        rw (is-false (done (getNo s (s .source x))) t)
-        (let o = ok .sourced x h in
-        lowest-at (setNo s x) (getNo s (s .source x)) (omega arith)
-        (λ g. (get-set-holds s ok x h, t))
-        (λ a g p m. elim (before-set s x a h (omega arith) p) [
-          | inl e ↦ omega arith
-          | inr (z, e) ↦ clash (done (s .inputOwner x)) (d z)
-              (subst (λ w. T (not (done w))) e m)
-        ]))
-  ]
+  pub set-source : (x : ℕ) → x < s .inputs → T (not (done (getNo s (s .source x))))
+      → (s .kind x ≡ 0 → T (done (s .inputOwner x)))
+      → getNo s (s .source x) ≡ lowestBefore (total s) (precedes s) (done) (setNo s x)
+  set-source x h n d =
+      let o = ok .sourced x h in
+      lowest-at (setNo s x) (getNo s (s .source x)) (omega arith)
+      (λ g. (get-set-holds s ok x h, n))
+      (λ a g p m. elim (before-set s x a h (omega arith) p) [
+        | inl e ↦ omega arith
+        | inr (z, e) ↦ clash (done (s .inputOwner x)) (d z)
+            (subst (λ w. T (not (done w))) e m)
+      ])
 
 -- ---- the lowest of the feeding inputs, feed by feed
 module _ (s : Shape) (y : ℕ) (done : ℕ → Bool) where
@@ -194,10 +182,3 @@ module _ (s : Shape) (y : ℕ) (done : ℕ → Bool) where
             ));
       })
       (lowest-is (keepsGet s y done) (s .inputs))
-
--- ---- the get of a source, as the code asks for it
-module _ (s : Shape) (done : ℕ → Bool) (x : ℕ) where
-  pub source-stays : T (not (done (getNo s (s .source x))))
-      → getNo s (s .source x) ≡ sourceLeft s done x
-  unfolding sourceLeft
-  source-stays z = rw (is-false (done (getNo s (s .source x))) z)

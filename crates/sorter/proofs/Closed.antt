@@ -1,5 +1,5 @@
 -- What is placed has all before it placed; so a step remains where a set before it does.
-use mathlib.Core.Path.{_≡_, refl, subst, _∙_, fun-ext}
+use mathlib.Core.Path.{_≡_, refl, subst, fun-ext}
 use mathlib.Core.Logic.{inl, inr}
 use mathlib.Core.Bool.{Bool, true, false, not, _||_}
 use mathlib.Core.List.{List}
@@ -26,9 +26,9 @@ use Rattle.orders.specs.Walk.{among, lowestBefore}
 use Rattle.orders.specs.Walked.{Stuck}
 use Rattle.orders.specs.Remains.{placed-stuck}
 use Rattle.placing.specs.Placing.{callCount, placedOf}
-use Rattle.sorter.specs.Marks.{keepsStep}
+use Rattle.sorter.specs.Keeps.{keepsStep}
 use Rattle.sorter.specs.Lows.{LowSteps}
-use Rattle.sorter.proofs.Before.{set-source, source-stays}
+use Rattle.sorter.proofs.Before.{set-source}
 
 module _ (N : ℕ) (pred : ℕ → ℕ → Bool) (inside : (a c : ℕ) → T (pred a c) → a < N) where
   -- what is done has all before it done
@@ -152,5 +152,4 @@ module _ (t : List ℕ) (ok : Sound t) (early : length (placedOf t) < callCount 
             (clash (among (placedOf t) (s .inputOwner x)) (d z)
             (subst (λ w. T (not (among (placedOf t) w))) e m))
       ] in
-      source-stays s (among (placedOf t)) x remains
-      ∙ set-source s (ok .wired) (among (placedOf t)) x h d
+      set-source s (ok .wired) (among (placedOf t)) x h remains d

@@ -16,7 +16,7 @@ use Rattle.table.specs.Sound.{Sound}
 use Rattle.calls.specs.Number.{setNo}
 use Rattle.calls.specs.Precedence.{hasKind}
 use Rattle.calls.specs.Neighbours.{kind-found, found-kind}
-use Rattle.sorter.specs.Marks.{keepsStep}
+use Rattle.sorter.specs.Keeps.{keepsStep}
 use Rattle.sorter.specs.Lows.{LowSteps, LowGets}
 use Rattle.sorter.proofs.Before.{Best, best-starts, best-lower, best-stays, best-ends}
 

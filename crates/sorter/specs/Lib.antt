@@ -1,4 +1,4 @@
-pub mod Marks
+pub mod Keeps
 pub mod Lows
 pub mod Trail
 pub mod Ordering

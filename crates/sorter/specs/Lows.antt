@@ -6,7 +6,7 @@ use Prim.Native.Nat.{ℕ, _<_}
 use lib.ListN.{length, getD}
 use Rattle.search.specs.Least.{leastFrom}
 use Rattle.table.specs.Packed.{units, outputs, inputs, shapeOf}
-use Rattle.sorter.specs.Marks.{keepsStep, keepsGet}
+use Rattle.sorter.specs.Keeps.{keepsStep, keepsGet}
 
 -- for each unit the lowest reactive input whose set remains; X where there is none
 pub record LowSteps (t : List ℕ) (done : ℕ → Bool) (lows : List ℕ) : Type 0 where
