@@ -1,6 +1,6 @@
 -- Each public function's contract asks nothing and permits one answer, with all that is lent.
 use mathlib.Core.Path.{ap, sym, refl, ◌∙◌}
-use Rattle.search.specs.Contracts.{Settles}
+use Rattle.search.specs.Settling.{Settles}
 use Rattle.bits.proofs.has.Kinds as has
 use Rattle.bits.proofs.has.Reads as has-says
 use Rattle.bits.proofs.put.Kinds as put

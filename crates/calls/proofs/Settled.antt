@@ -1,6 +1,6 @@
 -- Each public function's contract asks nothing and permits one answer, with every lent byte.
 use mathlib.Core.Path.{sym, refl, ◌∙◌}
-use Rattle.search.specs.Contracts.{Settles}
+use Rattle.search.specs.Settling.{Settles}
 use Rattle.calls.proofs.number.call_in.Kinds as call-in
 use Rattle.calls.proofs.number.call_in.Reads as call-in-says
 use Rattle.calls.proofs.number.call_of.Kinds as call-of

@@ -1,8 +1,10 @@
 // A call number as one of step, get, set and no call, and which call comes before which.
+#![tactic(auto)]
+
 pub mod number;
 pub mod precedence;
 
-#[derive(Drop)]
+#[derive(Clone, Copy)]
 pub enum Call {
     Step(usize),
     Get(usize),

@@ -1,6 +1,6 @@
 -- Each public function's contract asks nothing and permits one answer, with every lent byte.
 use mathlib.Core.Path.{ap, sym, ◌∙◌}
-use Rattle.search.specs.Contracts.{Settles}
+use Rattle.search.specs.Settling.{Settles}
 use Rattle.declarations.proofs.note_lines.Kinds as note-lines
 use Rattle.declarations.proofs.note_lines.Reads as note-lines-says
 

@@ -1,4 +1,6 @@
 // The lines that open with a keyword: where they begin in the text.
+#![tactic(auto)]
+
 ghost use Rattle.std.specs.Prelude.{◌≡◌, ◌+◌, ◌<◌, ◌≤◌, length};
 ghost use Rattle.grammar.specs.Rows.{row_at};
 ghost use Rattle.fields.specs.Spans.{fields_at};

@@ -1,7 +1,7 @@
 -- The demands over the contracts of what C calls, as callers read them: r is what C gets.
 use Rattle.std.specs.Prelude.{◌≡◌, ◌↔◌, ℕ, ◌≤◌, ◌<◌, ℤ, length, take}
 use Rattle.std.proofs.Common.{sym, ◌∙◌}
-use Rattle.search.specs.Contracts.{Says}
+use Rattle.search.specs.Settling.{Says}
 use Rattle.search.specs.Sets.{none}
 use Rattle.table.specs.Packed.{shape_of}
 use Rattle.table.specs.Sound.{Sound}

@@ -1,6 +1,6 @@
 -- Each public function's contract asks nothing and permits one answer, with every lent byte.
 use mathlib.Core.Path.{ap, sym, refl, ◌∙◌}
-use Rattle.search.specs.Contracts.{Settles}
+use Rattle.search.specs.Settling.{Settles}
 use Rattle.desk.proofs.oorlichday_read.Kinds as oorlichday-read
 use Rattle.desk.proofs.oorlichday_read.Reads as oorlichday-read-says
 use Rattle.desk.proofs.oorlichday_list.Kinds as oorlichday-list

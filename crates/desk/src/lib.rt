@@ -1,4 +1,6 @@
 // What tests and desktop programs call and the box does not: the text, a judged run, precedence.
+#![tactic(auto)]
+
 ghost use Rattle.std.specs.Prelude.{◌≡◌, length};
 ghost use Rattle.table.specs.Packed.{shape_of};
 ghost use Rattle.calls.specs.Precedence.{precedes as precedes-test};
@@ -12,7 +14,7 @@ use judge::{Run, Taken};
 
 // A number, and a line or how many bytes were written, apart: a line may be above 255.
 #[repr(C)]
-#[derive(Drop)]
+#[derive(Clone, Copy)]
 pub struct Reading {
     pub number: u8,
     pub place: usize,

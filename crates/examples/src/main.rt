@@ -1,4 +1,6 @@
 // Runs the examples of SPECIFICATION, Examples, and some like them, and prints what each gives.
+#![tactic(auto)]
+
 mod checked;
 mod exported;
 mod judged;

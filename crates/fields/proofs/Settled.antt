@@ -1,6 +1,6 @@
 -- Each public function's contract asks nothing and permits one answer, with every lent byte.
 use mathlib.Core.Path.{sym, refl, ◌∙◌}
-use Rattle.search.specs.Contracts.{Settles}
+use Rattle.search.specs.Settling.{Settles}
 use Rattle.fields.proofs.same.Kinds as same
 use Rattle.fields.proofs.same.Reads as same-says
 use Rattle.fields.proofs.word_end.Kinds as word_end

@@ -1,11 +1,13 @@
 // Comparing bytes, and where the fields of a line begin and end in a text.
+#![tactic(auto)]
+
 ghost use Rattle.std.specs.Prelude.{◌≡◌, ◌<◌};
 ghost use Rattle.grammar.specs.Words.{same as same_bytes};
 ghost use Rattle.grammar.specs.Rows.{word_end};
 ghost use Rattle.fields.specs.Spans.{no_fields, one_more, fields_at};
 
 // A line's fields: where the first five begin and end, how many there are, where the next line is.
-#[derive(Drop)]
+#[derive(Clone, Copy)]
 pub struct Fields {
     pub from: [u16; 5],
     pub to: [u16; 5],

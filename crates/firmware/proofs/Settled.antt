@@ -1,7 +1,7 @@
 -- Each public function's contract asks nothing and permits one answer, with every lent byte.
 use mathlib.Core.Path.{◌≡◌, ap, sym, refl, ◌∙◌}
 use base.Logic.{emp, id⊢}
-use Rattle.search.specs.Contracts.{Settles, SettlesClauses}
+use Rattle.search.specs.Settling.{Settles, SettlesClauses}
 use Rattle.table.specs.Packed.{shape_of}
 use Rattle.judging.specs.Verdict.{verdict_of}
 use Rattle.judge.specs.Records.{all_numbered}

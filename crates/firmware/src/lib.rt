@@ -1,4 +1,6 @@
 // What the firmware calls from C: SPECIFICATION, For C.
+#![tactic(auto)]
+
 ghost use Rattle.std.specs.Prelude.{◌≡◌, ◌≤◌, length};
 ghost use Rattle.table.specs.Check.{checked};
 ghost use Rattle.table.specs.Packed.{shape_of};

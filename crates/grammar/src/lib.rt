@@ -1,1 +1,2 @@
 // Theory alone: what reading a text table gives, for any bytes.
+#![tactic(auto)]

@@ -2,7 +2,7 @@
 use mathlib.Core.Path.{◌≡◌, sym, refl, ◌∙◌}
 use mathlib.Core.Logic.{◌↔◌}
 use base.Logic.{emp, id⊢}
-use Rattle.search.specs.Contracts.{Settles, SettlesClauses, Says}
+use Rattle.search.specs.Settling.{Settles, SettlesClauses, Says}
 use Rattle.search.specs.Sets.{none}
 use Rattle.table.specs.Sound.{Sound}
 use Rattle.table.specs.Packed.{shape_of}

@@ -1,4 +1,6 @@
 // The judge: a run that takes one call at a time, and the verdict on an order.
+#![tactic(auto)]
+
 ghost use Rattle.std.specs.Prelude.{◌≡◌, ◌↔◌};
 ghost use Rattle.table.specs.Packed.{shape_of};
 ghost use Rattle.table.specs.Check.{refusal};
@@ -19,14 +21,14 @@ mod scans;
 
 // Which call numbers below 224 are done.
 #[repr(C)]
-#[derive(Drop)]
+#[derive(Clone, Copy)]
 pub struct Run {
     pub done: [bool; 224],
 }
 
 // The run after a call, with the number that the call is answered.
 #[repr(C)]
-#[derive(Drop)]
+#[derive(Clone, Copy)]
 pub struct Taken {
     pub run: Run,
     pub number: u8,

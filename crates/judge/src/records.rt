@@ -15,7 +15,7 @@ use table::parts::{input_count, output_count, unit_count};
 
 // Kind 0, 1 or 2 for step, get, set, and the number counted within its kind.
 #[repr(C)]
-#[derive(Drop)]
+#[derive(Clone, Copy)]
 pub struct Record {
     pub kind: u8,
     pub number: u8,

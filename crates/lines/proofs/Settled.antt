@@ -6,7 +6,7 @@ use mathlib.Core.Bool.{Bool, true, false, cond}
 use mathlib.Core.List.{List}
 use native.Mathlib.Decide.{ℕ_discrete}
 use lib.Dec.{eqb}
-use Rattle.search.specs.Contracts.{SettlesWhere}
+use Rattle.search.specs.Settling.{SettlesWhere}
 use Rattle.grammar.specs.Draft.{Draft}
 use Rattle.grammar.specs.Rows.{word}
 use Rattle.grammar.specs.Lines.{Outcome}

@@ -1,4 +1,6 @@
 // A line below the first: its refusal, or what it declares. The notes are only read here.
+#![tactic(auto)]
+
 ghost use Rattle.std.specs.Prelude.{◌≡◌};
 ghost use Rattle.grammar.specs.Rows.{row_at};
 ghost use Rattle.grammar.specs.Lines.{line as line_outcome};
@@ -18,7 +20,7 @@ use notes::{Counts, Entry, Places, Slots};
 use shape::word;
 
 // 0 and what the line declares; or a refusal's number and its leftmost faulty field, from 1, or 0.
-#[derive(Drop)]
+#[derive(Clone, Copy)]
 pub struct Taken {
     pub number: u8,
     pub field: u8,
@@ -26,7 +28,7 @@ pub struct Taken {
 }
 
 // A port found: its unit and its own number; or the field whose name is not declared, from 1.
-#[derive(Drop)]
+#[derive(Clone, Copy)]
 pub struct Port {
     pub unit: usize,
     pub number: usize,

@@ -1,4 +1,6 @@
 // Prints the order of the text table on standard input, or its cycle, or its refusal.
+#![tactic(auto)]
+
 ghost use Rattle.std.specs.Prelude.{◌≡◌, true, length};
 ghost use Rattle.lister.specs.Within.{Within};
 
@@ -8,7 +10,7 @@ use listing::list;
 const LISTING_MAX: usize = 8860;
 
 // How many bytes were read to the end of the input, or that it cannot be read.
-#[derive(Drop)]
+#[derive(Clone, Copy)]
 enum Input {
     Bytes(usize),
     Failed,

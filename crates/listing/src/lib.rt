@@ -1,4 +1,6 @@
 // What the lister prints of a text, written into a lent buffer.
+#![tactic(auto)]
+
 ghost use Rattle.std.specs.Prelude.{◌≡◌, length};
 ghost use Rattle.search.specs.Front.{fronted};
 ghost use Rattle.printing.specs.Listed.{listed};

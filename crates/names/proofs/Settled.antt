@@ -2,7 +2,7 @@
 use mathlib.Core.Path.{ap₂, sym, refl, ◌∙◌}
 use mathlib.Core.Bool.{Bool}
 use Prim.Native.Nat.{ℕ}
-use Rattle.search.specs.Contracts.{SettlesWhere}
+use Rattle.search.specs.Settling.{SettlesWhere}
 use Rattle.names.specs.declared.Spot.{Spot}
 use Rattle.notes.proofs.Ranks.{spot-one}
 use Rattle.names.proofs.seek.Kinds as seek

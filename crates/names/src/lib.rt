@@ -1,4 +1,6 @@
 // A name found in the notes by its owner and its bytes: the names of each kind by halves.
+#![tactic(auto)]
+
 ghost use Rattle.std.specs.Prelude.{◌≡◌, ◌∷◌, ◌<◌};
 ghost use Rattle.search.specs.Least.{least_from};
 ghost use Rattle.notes.specs.Compared.{compared};
@@ -12,7 +14,7 @@ use notes::{OWNERS, Places, Slots};
 mod words;
 
 // The rank of a name, or where it would stand, and whether it is there.
-#[derive(Drop)]
+#[derive(Clone, Copy)]
 pub struct Spot {
     pub rank: usize,
     pub here: bool,

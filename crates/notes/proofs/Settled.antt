@@ -1,6 +1,6 @@
 -- Where there is room, the contract of `note` permits one answer, with every lent byte.
 use mathlib.Core.Path.{ap₂, sym, ◌∙◌}
-use Rattle.search.specs.Contracts.{SettlesWhere}
+use Rattle.search.specs.Settling.{SettlesWhere}
 use Rattle.notes.proofs.note.Kinds as note
 use Rattle.notes.proofs.note.Reads as note-says
 

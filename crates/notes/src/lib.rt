@@ -1,4 +1,6 @@
 // The notes: what a text has declared, in two arrays and four counts; and one declaration more.
+#![tactic(auto)]
+
 ghost use Rattle.std.specs.Prelude.{◌≡◌, ◌+◌, ◌≤◌, ◌<◌, length};
 ghost use Rattle.notes.specs.Noted.{put_in, named_places, named_slots, Became, Room};
 ghost use Rattle.notes.specs.Noted.{more_units, more_outputs, more_inputs, more_feeds};
@@ -42,7 +44,7 @@ pub type Places = [u16; PLACES];
 pub type Slots = [u8; SLOTS];
 
 // How many of each have been noted.
-#[derive(Drop)]
+#[derive(Clone, Copy)]
 pub struct Counts {
     pub units: usize,
     pub outputs: usize,
@@ -51,7 +53,7 @@ pub struct Counts {
 }
 
 // What a line declares, 1 a unit, 2 an output, 3 an input, 4 a feed, 5 a join, with its parts.
-#[derive(Drop)]
+#[derive(Clone, Copy)]
 pub struct Entry {
     pub what: u8,
     pub owner: u8,

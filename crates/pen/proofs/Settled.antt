@@ -1,6 +1,6 @@
 -- Each public function's contract asks nothing and permits one answer, with every lent byte.
 use mathlib.Core.Path.{ap, sym, refl, ◌∙◌}
-use Rattle.search.specs.Contracts.{Settles}
+use Rattle.search.specs.Settling.{Settles}
 use Rattle.pen.proofs.put.Kinds as put
 use Rattle.pen.proofs.put.Reads as put-says
 use Rattle.pen.proofs.put_byte.Kinds as put_byte

@@ -1,4 +1,6 @@
 // Writing into a lent buffer: bytes, one byte, a number. What does not fit is not written.
+#![tactic(auto)]
+
 ghost use Rattle.std.specs.Prelude.{◌≡◌, ◌∷◌, [], ◌+◌, length, leb};
 ghost use Rattle.pen.specs.Put.{Put};
 ghost use Rattle.pen.specs.Decimal.{decimal};

@@ -1,7 +1,7 @@
 -- Each public function's contract permits one answer, with every lent byte, where it is met.
 use mathlib.Core.Path.{ap, ap₂, sym, refl, ◌∙◌}
 use Prim.Native.Nat.{ℕ}
-use Rattle.search.specs.Contracts.{Settles, SettlesWhere}
+use Rattle.search.specs.Settling.{Settles, SettlesWhere}
 use Rattle.placing.specs.declared.Placed.{Placed}
 use Rattle.placing.proofs.Threads.{standing_one}
 use Rattle.placing.proofs.place.place.Kinds as place

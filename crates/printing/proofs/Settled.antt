@@ -1,6 +1,6 @@
 -- Each public function's contract asks nothing and permits one answer, with every lent byte.
 use mathlib.Core.Path.{ap, sym, ◌∙◌}
-use Rattle.search.specs.Contracts.{Settles}
+use Rattle.search.specs.Settling.{Settles}
 use Rattle.printing.proofs.put_calls.Kinds as put-calls
 use Rattle.printing.proofs.put_calls.Reads as put-calls-says
 use Rattle.printing.proofs.put_refusal.Kinds as put-refusal

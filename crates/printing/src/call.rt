@@ -10,7 +10,7 @@ use calls::number::call_in;
 use fields::fields_at;
 
 // The line that declares a call: 0 step, 1 get, 2 set, 3 no call; and where it begins.
-#[derive(Drop)]
+#[derive(Clone, Copy)]
 pub struct Line {
     pub kind: u8,
     pub place: u16,

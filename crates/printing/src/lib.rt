@@ -1,4 +1,6 @@
 // What the lister prints, written into a lent buffer: all of it, or nothing.
+#![tactic(auto)]
+
 mod call;
 mod entries;
 mod line;

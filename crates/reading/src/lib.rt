@@ -1,1 +1,2 @@
 // Theory alone: what follows for a text that is read.
+#![tactic(auto)]

@@ -1,6 +1,6 @@
 -- Each public function's contract asks nothing and permits one answer, with every lent byte.
 use mathlib.Core.Path.{sym, refl, ◌∙◌}
-use Rattle.search.specs.Contracts.{Settles}
+use Rattle.search.specs.Settling.{Settles}
 use Rattle.scan.proofs.first_bad.Kinds as first-bad
 use Rattle.scan.proofs.first_bad.Reads as first-bad-says
 use Rattle.scan.proofs.line_ends.Kinds as line-ends

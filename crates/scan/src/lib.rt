@@ -1,4 +1,6 @@
 // Looking over a whole text: its first byte that is not allowed, and on which line a byte stands.
+#![tactic(auto)]
+
 ghost use Rattle.std.specs.Prelude.{◌≡◌};
 ghost use Rattle.grammar.specs.Words.{lf, allowed};
 ghost use Rattle.grammar.specs.Rows.{times, first_bad};

@@ -4,4 +4,4 @@ pub mod Least
 pub mod Every
 pub mod Count
 pub mod Front
-pub mod Contracts
+pub mod Settling

@@ -2,7 +2,7 @@
 use mathlib.Core.Path.{ap, sym, ◌∙◌}
 use Prim.Native.Nat.{◌≤◌}
 use lib.ListN.{length, take}
-use Rattle.search.specs.Contracts.{Settles, Says}
+use Rattle.search.specs.Settling.{Settles, Says}
 use Rattle.table.specs.Sound.{Sound}
 use Rattle.placing.specs.Placing.{call_count}
 use Rattle.sorter.specs.OrderOrCycle.{OrderOrCycle}

@@ -1,4 +1,6 @@
 // The order of a table's calls, or the cycle shown.
+#![tactic(auto)]
+
 mod back;
 mod lows;
 pub mod order;

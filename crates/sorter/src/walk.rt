@@ -17,7 +17,7 @@ use crate::lows::{low_gets, low_steps};
 use bits::{has, put};
 
 // Where the walk stands on its path, and the call that it meets again.
-#[derive(Drop)]
+#[derive(Clone, Copy)]
 pub struct Met {
     pub at: usize,
     pub call: usize,

@@ -1,7 +1,7 @@
 -- Each public function's contract permits one answer, with every lent byte; those of `sound` ask
 -- for a sound table, all others nothing.
 use mathlib.Core.Path.{sym, refl, ◌∙◌}
-use Rattle.search.specs.Contracts.{Settles, SettlesSeen, SettlesWhere}
+use Rattle.search.specs.Settling.{Settles, SettlesSeen, SettlesWhere}
 use Rattle.table.proofs.check.first_refusal.Kinds as first-refusal
 use Rattle.table.proofs.check.first_refusal.Reads as first-refusal-says
 use Rattle.table.proofs.check.check.Kinds as check

@@ -1,4 +1,6 @@
 // Reading a text table.
+#![tactic(auto)]
+
 ghost use Rattle.std.specs.Prelude.{◌≡◌, length};
 ghost use Rattle.search.specs.Front.{fronted};
 ghost use Rattle.grammar.specs.Reading.{reading};
@@ -11,7 +13,7 @@ mod whole;
 use notes::{Counts, PLACES, SLOTS};
 
 // A refusal's number with its place, or 0, and what has been noted.
-#[derive(Drop)]
+#[derive(Clone, Copy)]
 pub struct Noted {
     pub number: u8,
     pub place: usize,
@@ -19,7 +21,7 @@ pub struct Noted {
 }
 
 // 0 and the packed length, or the number of a refusal and its line.
-#[derive(Drop)]
+#[derive(Clone, Copy)]
 pub struct Answer {
     pub number: u8,
     pub place: usize,

@@ -1,1 +1,2 @@
 // Theory alone: rules of models, the run of calls, the equations, that passed orders solve them.
+#![tactic(auto)]
