@@ -1,0 +1,14 @@
+-- The loop keeps that the rest of the one is compared with the rest of the other.
+use Prim.Native.Nat.{◌≤◌, ◌-◌}
+use mathlib.Core.Path.{◌≡◌, sym, ◌∙◌}
+use lib.ListN.{length, drop}
+use Rattle.grammar.specs.Words.{same as same_bytes}
+use Rattle.fields.proofs.Bytes.{same_lengths, same-on, same_stop, same_end}
+use Rattle.fields.proofs.same.Given as goal
+
+abbrev pub invariant-loop-i : goal.invariant-loop-i
+invariant-loop-i l = (l.i ≤ length l.a) × (length l.a ≡ length l.b) ×
+    (same_bytes l.a l.b ≡ same_bytes (drop l.i l.a) (drop l.i l.b))
+
+abbrev pub decreases-loop-i : goal.decreases-loop-i
+decreases-loop-i l = length l.a - l.i

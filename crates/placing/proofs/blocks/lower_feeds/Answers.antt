@@ -1,0 +1,99 @@
+-- A block that is noted is lowered as a part of its own; another holds no feed of the input.
+use Rattle.calls.specs.Hits.{hits}
+use native.Mathlib.Omega.{arith}
+use mathlib.Core.Path.{◌∙◌}
+use mathlib.Core.Logic.{⊎_elim}
+use Prim.Native.Nat.{◌+◌, ◌*◌, ◌≤◌}
+use Rattle.placing.specs.Blocks.{Within}
+use Rattle.placing.specs.Less.{is_input, fed}
+use Rattle.placing.specs.Lowered.{Lowered}
+use Rattle.placing.proofs.Noted.{within-half}
+use Rattle.placing.proofs.Blocked.{reach, feeds-long, feeds-fit, feeds-room, feeds_on}
+use Rattle.placing.proofs.Blocked.{blocks_start, blocks_miss, blocks_end}
+use Rattle.placing.proofs.blocks.lower_feeds.Goals as goal
+
+pub loop-left-init : goal.loop-left-init
+loop-left-init c =
+    (
+      omega (arith, c.requires.blocks_bound),
+      c.requires.within,
+      blocks_start (is_input c.args.pairs.now c.args.input) (fed c.args.pairs.now c.args.first)
+      c.args.count
+          c.args.waiting.now c.args.ready.now c.requires.words,
+    )
+
+pub overflow_add-from : goal.overflow_add-from
+overflow_add-from c = record { fits = omega (arith, c.loop-left.invariant.0) }
+
+pub overflow_mul-a : goal.overflow_mul-a
+overflow_mul-a c =
+    record { fits = omega (arith, c.least-a.ensures, c.loop-left.invariant.0) }
+
+pub overflow_mul-z : goal.overflow_mul-z
+overflow_mul-z c =
+    record { fits = omega (arith, c.least-z.ensures, c.loop-left.invariant.0) }
+
+pub slice_bounds-lower_fed-count : goal.slice_bounds-lower_fed-count
+slice_bounds-lower_fed-count c = omega (arith, c.least-a.ensures, c.least-z.ensures)
+
+pub slice_bounds-lower_fed-start : goal.slice_bounds-lower_fed-start
+slice_bounds-lower_fed-start c = omega (arith, c.least-a.ensures, c.least-z.ensures)
+
+pub slice_bounds-lower_fed-end : goal.slice_bounds-lower_fed-end
+slice_bounds-lower_fed-end c = omega (arith, c.least-z.ensures, c.requires.1.1.0)
+
+pub overflow_sub-z : goal.overflow_sub-z
+overflow_sub-z c = omega (arith, c.least-a.ensures, c.least-z.ensures)
+
+pub lower_fed-requires : goal.lower_fed-requires
+lower_fed-requires c =
+    record {
+      waiting_len = c.loop-left.invariant.2.falls.long ∙ c.requires.waiting_len;
+      words = c.loop-left.invariant.2.words;
+      pairs_len = feeds-long c.args.pairs.now c.args.count c.args.input c.args.first
+      c.loop-left.from c.least-a.result
+              c.least-z.result c.least-a.ensures c.least-z.ensures c.requires.pairs_len;
+      by_index = feeds-fit c.args.pairs.now c.args.count c.args.input c.args.first
+      c.loop-left.from c.least-a.result
+                c.least-z.result c.least-a.ensures c.least-z.ensures c.requires.pairs_len
+                c.requires.by_index;
+      by_index_2 = feeds-room c.args.pairs.now c.args.count c.args.input c.args.first
+      c.loop-left.from c.least-a.result
+                c.least-z.result c.least-a.ensures c.least-z.ensures c.requires.pairs_len
+                c.args.waiting.now c.loop-left.waiting c.args.ready.now c.loop-left.ready
+                c.requires.by_index_2 c.loop-left.invariant.2;
+    }
+
+pub overflow_add-from-in-loop-left : goal.overflow_add-from-in-loop-left
+overflow_add-from-in-loop-left c = record { fits = omega (arith, c.loop-left.invariant.0) }
+
+pub loop-left-smaller : goal.loop-left-smaller
+loop-left-smaller c = omega (arith, c.loop-left-test.true)
+
+pub loop-left-preserved : goal.loop-left-preserved
+loop-left-preserved c =
+    let q = is_input c.args.pairs.now c.args.input in
+    let at = fed c.args.pairs.now c.args.first in
+    (
+      omega (arith, c.loop-left.invariant.0, c.loop-left-test.true),
+      within-half q c.args.count c.loop-left.from c.loop-left.false 32 (λ i h. omega arith)
+      c.loop-left.invariant.1,
+      ⊎_elim
+          (λ w. rw (w.7, w.8)
+          (feeds_on c.args.pairs.now c.args.count c.args.input c.args.first c.loop-left.from
+          w.1.result
+          w.2.result w.1.ensures w.2.ensures c.requires.pairs_len _ _ _ _ _ _
+          c.loop-left.invariant.2
+          w.6.ensures))
+          (λ w. rw (w.1, w.2)
+          (blocks_miss q at c.args.count c.loop-left.from 32 c.loop-left.false _ _ _ _
+          c.loop-left.invariant.1 w.0.left
+          c.loop-left.invariant.2)) c.if-left-eq1.branch,
+    )
+
+pub returns : goal.returns
+returns c =
+    blocks_end (is_input c.args.pairs.now c.args.input) (fed c.args.pairs.now c.args.first)
+    c.args.count
+    c.loop-left.from 32 c.loop-left.false _ _ _ _ c.loop-left.invariant.1 c.loop-left-test.false
+    c.loop-left.invariant.2

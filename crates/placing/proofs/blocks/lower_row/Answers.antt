@@ -1,0 +1,84 @@
+-- A block that is noted is lowered as a part of its own; one that is not holds no key.
+use Rattle.calls.specs.Hits.{nth, hits}
+use native.Mathlib.Omega.{arith}
+use mathlib.Core.Path.{◌∙◌}
+use mathlib.Core.Logic.{⊎_elim}
+use Prim.Native.Nat.{◌+◌, ◌*◌, ◌≤◌}
+use lib.ListN.{length}
+use Rattle.placing.specs.Blocks.{Within}
+use Rattle.placing.specs.Less.{is_key}
+use Rattle.placing.specs.Lowered.{Lowered}
+use Rattle.placing.proofs.Noted.{within-half}
+use Rattle.placing.proofs.Blocked.{reach, row_fits, row_room, row_on}
+use Rattle.placing.proofs.Blocked.{blocks_start, blocks_miss, blocks_end}
+use Rattle.placing.proofs.blocks.lower_row.Goals as goal
+
+pub loop-left-init : goal.loop-left-init
+loop-left-init c =
+    (
+      omega (arith, c.requires.blocks_bound),
+      c.requires.within,
+      blocks_start (is_key c.args.keys.now c.args.key) (nth c.args.first) (length c.args.keys.now)
+          c.args.waiting.now c.args.ready.now c.requires.words,
+    )
+
+pub overflow_add-from : goal.overflow_add-from
+overflow_add-from c = record { fits = omega (arith, c.loop-left.invariant.0) }
+
+pub slice_bounds-lower_keyed-count : goal.slice_bounds-lower_keyed-count
+slice_bounds-lower_keyed-count c = omega (arith, c.least-a.ensures, c.least-z.ensures)
+
+pub slice_bounds-lower_keyed-start : goal.slice_bounds-lower_keyed-start
+slice_bounds-lower_keyed-start c = omega (arith, c.least-a.ensures, c.least-z.ensures)
+
+pub slice_bounds-lower_keyed-end : goal.slice_bounds-lower_keyed-end
+slice_bounds-lower_keyed-end c = omega (arith, c.least-z.ensures)
+
+pub overflow_add-first : goal.overflow_add-first
+overflow_add-first c =
+    record { fits = omega (arith, c.least-a.ensures, c.requires.1.1.1.1.0) }
+
+pub lower_keyed-requires : goal.lower_keyed-requires
+lower_keyed-requires c =
+    record {
+      waiting_len = c.loop-left.invariant.2.falls.long ∙ c.requires.waiting_len;
+      words = c.loop-left.invariant.2.words;
+      keys_bound = row_fits c.args.keys.now c.args.key c.args.first c.loop-left.from
+      c.least-a.result c.least-z.result c.least-a.ensures c.least-z.ensures
+              c.requires.keys_bound;
+      by_index = row_room c.args.keys.now c.args.key c.args.first c.loop-left.from
+      c.least-a.result c.least-z.result c.least-a.ensures c.least-z.ensures
+              c.args.waiting.now c.loop-left.waiting c.args.ready.now c.loop-left.ready
+              c.requires.by_index c.loop-left.invariant.2;
+    }
+
+pub overflow_add-from-in-loop-left : goal.overflow_add-from-in-loop-left
+overflow_add-from-in-loop-left c = record { fits = omega (arith, c.loop-left.invariant.0) }
+
+pub loop-left-smaller : goal.loop-left-smaller
+loop-left-smaller c = omega (arith, c.loop-left-test.true)
+
+pub loop-left-preserved : goal.loop-left-preserved
+loop-left-preserved c =
+    (
+      omega (arith, c.loop-left.invariant.0, c.loop-left-test.true),
+      within-half (is_key c.args.keys.now c.args.key) (length c.args.keys.now) c.loop-left.from
+      c.loop-left.false 24
+          (λ i h. omega arith) c.loop-left.invariant.1,
+      ⊎_elim
+          (λ w. rw (w.7, w.8)
+          (row_on c.args.keys.now c.args.key c.args.first c.loop-left.from w.1.result w.2.result
+          w.1.ensures w.2.ensures _ _ _ _ _ _ c.loop-left.invariant.2 w.6.ensures))
+          (λ w. rw (w.1, w.2)
+          (blocks_miss (is_key c.args.keys.now c.args.key) (nth c.args.first)
+          (length c.args.keys.now)
+          c.loop-left.from 24 c.loop-left.false _ _ _ _ c.loop-left.invariant.1 w.0.left
+          c.loop-left.invariant.2)) c.if-left-eq1.branch,
+    )
+
+pub returns : goal.returns
+returns c =
+    blocks_end (is_key c.args.keys.now c.args.key) (nth c.args.first) (length c.args.keys.now)
+    c.loop-left.from 24
+    c.loop-left.false _ _ _ _ c.loop-left.invariant.1 c.loop-left-test.false
+    c.loop-left.invariant.2

@@ -1,0 +1,24 @@
+-- A block that is noted is lowered as a part of its own; one that is not holds no key.
+use Rattle.calls.specs.Hits.{nth, hits}
+use native.Mathlib.Omega.{arith}
+use mathlib.Core.Path.{◌∙◌}
+use mathlib.Core.Logic.{⊎_elim}
+use Prim.Native.Nat.{◌+◌, ◌*◌, ◌≤◌}
+use lib.ListN.{length}
+use Rattle.placing.specs.Blocks.{Within}
+use Rattle.placing.specs.Less.{are_keys}
+use Rattle.placing.specs.Lowered.{Lowered}
+use Rattle.placing.proofs.Noted.{within-half}
+use Rattle.placing.proofs.Blocked.{reach, rows-fits, rows_alike, rows-room, rows_on}
+use Rattle.placing.proofs.Blocked.{blocks_start, blocks_miss, blocks_end}
+use Rattle.placing.proofs.blocks.lower_rows.Given as goal
+
+abbrev pub invariant-loop-left : goal.invariant-loop-left
+invariant-loop-left l = (l.from + 24 * l.left ≤ 360)
+    × Within (are_keys l.keys l.key l.others l.other) 24 (length l.keys) l.left l.from
+    × Lowered (hits (are_keys l.keys l.key l.others l.other) (nth l.first)
+    (reach l.from (length l.keys))) l.initial.waiting
+    l.waiting l.initial.ready l.ready
+
+abbrev pub decreases-loop-left : goal.decreases-loop-left
+decreases-loop-left l = l.left

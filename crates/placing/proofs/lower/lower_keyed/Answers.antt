@@ -1,0 +1,51 @@
+-- A turn lowers one count or none: `lowers_hit` and `lowers_miss` carry the loop.
+use borrow.Author.Rules.{rules}
+use Rattle.calls.specs.Hits.{nth, hits}
+use native.Mathlib.Omega.{arith}
+use mathlib.Core.Path.{◌∙◌}
+use mathlib.Core.Logic.{⊎_elim}
+use Prim.Native.Nat.{◌-◌, ◌≤◌}
+use lib.ListN.{length}
+use Rattle.search.specs.Truth.{eq_true, eq_false}
+use Rattle.placing.specs.Less.{is_key}
+use Rattle.placing.specs.Lowered.{Lowered}
+use Rattle.placing.proofs.Hits.{lower_some}
+use Rattle.placing.proofs.Lowering.{lowers_none, lowers_hit, lowers_miss, lowers_all}
+use Rattle.placing.proofs.lower.lower_keyed.Goals as goal
+
+pub loop-i-init : goal.loop-i-init
+loop-i-init c =
+    (search rules, lowers_none _ _ c.args.waiting.now c.args.ready.now c.requires.words)
+
+pub lower-requires : goal.lower-requires
+lower-requires c =
+    record {
+      waiting_len = c.loop-i.invariant.1.falls.long ∙ c.requires.waiting_len;
+      words = c.loop-i.invariant.1.words;
+      call_bound = omega (arith, c.requires.keys_bound, c.loop-i-test.true);
+      nonzero = lower_some (is_key c.args.keys.now c.args.key) (nth c.args.first) c.loop-i.i
+      (length c.args.keys.now)
+              c.args.waiting.now c.loop-i.waiting c.loop-i-test.true
+              (eq_true _ _ c.if-keys-i.true) c.requires.by_index
+              c.loop-i.invariant.1.falls;
+    }
+
+pub loop-i-preserved : goal.loop-i-preserved
+loop-i-preserved c =
+    (
+      search rules,
+      ⊎_elim
+          (λ w. rw (w.4, w.5)
+          (lowers_hit (is_key c.args.keys.now c.args.key) (nth c.args.first) c.loop-i.i _ _ _ _ _
+          _
+          (eq_true _ _ w.0.taken) c.loop-i.invariant.1 w.3.ensures))
+          (λ w. rw (w.1, w.2)
+          (lowers_miss (is_key c.args.keys.now c.args.key) (nth c.args.first) c.loop-i.i _ _ _ _
+          (eq_false _ _ w.0.left) c.loop-i.invariant.1)) c.if-keys-i.branch,
+    )
+
+pub returns : goal.returns
+returns c =
+    lowers_all (is_key c.args.keys.now c.args.key) (nth c.args.first) (length c.args.keys.now)
+    c.loop-i.i _ _ _ _
+    c.loop-i.invariant.0 c.loop-i-test.false c.loop-i.invariant.1

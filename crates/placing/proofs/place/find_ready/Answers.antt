@@ -1,0 +1,31 @@
+-- Below c the bits are those of the calls that wait for none (`found_on`, `found-not`).
+use borrow.Author.Rules.{rules}
+use native.Mathlib.Omega.{arith}
+use mathlib.Core.Logic.{⊎_elim}
+use Prim.Native.Nat.{◌-◌, ◌≤◌}
+use Rattle.placing.proofs.Found.{Found, found_starts, found_on, found-not, found-ends}
+use Rattle.placing.proofs.place.find_ready.Goals as goal
+
+pub loop-c-init : goal.loop-c-init
+loop-c-init c =
+    (search rules, found_starts c.args.waiting.now c.args.ready.now c.requires.1.0 c.requires.1.1)
+
+pub loop-c-preserved : goal.loop-c-preserved
+loop-c-preserved c =
+    (
+      search rules,
+      ⊎_elim
+          (λ w. rw (w.3, w.2.ensures)
+          (found_on c.args.waiting.now c.loop-c.ready c.loop-c.c
+          (omega (arith, c.requires.count_bound, c.loop-c-test.true)) w.0.taken
+          c.loop-c.invariant.1))
+          (λ w. rw w.1
+          (found-not c.args.waiting.now c.loop-c.ready c.loop-c.c w.0.left c.loop-c.invariant.1))
+          c.if-waiting-c-eq0.branch,
+    )
+
+pub returns : goal.returns
+returns c =
+    let all = found-ends c.args.waiting.now c.loop-c.ready c.loop-c.c c.args.count
+    c.loop-c.invariant.0 c.loop-c-test.false c.loop-c.invariant.1 in
+    record { words_2 = all.0; by_index = all.1 }

@@ -1,0 +1,11 @@
+-- Each turn writes one call before those written (`backing_on`).
+use native.Mathlib.Omega.{arith}
+use Rattle.placing.proofs.Threads.{Backing, backing_starts, backing_call, backing_on}
+use Rattle.placing.proofs.Threads.{backing_ends}
+use Rattle.placing.proofs.thread.write_back.Given as goal
+
+abbrev pub invariant-loop-n : goal.invariant-loop-n
+invariant-loop-n l = Backing l.bytes l.count l.last l.initial.out l.n l.c l.out
+
+abbrev pub decreases-loop-n : goal.decreases-loop-n
+decreases-loop-n l = l.n

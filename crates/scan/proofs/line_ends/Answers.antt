@@ -1,0 +1,43 @@
+-- The loop keeps the count of LFs among the bytes passed over.
+use Prim.Native.Nat.{◌-◌, ◌≤◌}
+use mathlib.Core.Path.{◌≡◌, refl, ◌∙◌}
+use mathlib.Core.Logic.{⊎_elim}
+use native.Mathlib.Omega.{arith}
+use lib.ListN.{length, take}
+use Rattle.grammar.specs.Words.{lf}
+use Rattle.grammar.specs.Rows.{times}
+use Rattle.scan.proofs.Scanning.{counts, passes, times-all}
+use Rattle.scan.proofs.line_ends.Goals as goal
+
+pub loop-i-init : goal.loop-i-init
+unfolding times
+loop-i-init c = (omega arith, (omega arith, refl))
+
+pub bounds-text-i : goal.bounds-text-i
+bounds-text-i c = omega arith
+
+pub overflow_add-count : goal.overflow_add-count
+overflow_add-count c = omega arith
+
+pub overflow_add-i : goal.overflow_add-i
+overflow_add-i c = omega arith
+
+pub loop-i-smaller : goal.loop-i-smaller
+loop-i-smaller c = omega arith
+
+pub loop-i-preserved : goal.loop-i-preserved
+loop-i-preserved c =
+    ⊎_elim
+    (λ w. (
+      omega arith,
+      (omega (arith, w.1), w.1 ∙ counts _ _ _ c.loop-i-test.true c.loop-i.invariant.1.1
+      w.0.taken),
+    ))
+    (λ w. (
+      omega arith,
+      (omega (arith, w.1), w.1 ∙ passes _ _ _ c.loop-i-test.true c.loop-i.invariant.1.1 w.0.left),
+    )) c.if-text-i-eq10.branch
+
+pub returns : goal.returns
+returns c =
+    c.loop-i.invariant.1.1 ∙ times-all _ _ _ c.loop-i-test.false

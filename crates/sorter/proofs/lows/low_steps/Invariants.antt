@@ -1,0 +1,27 @@
+-- Each byte is X at first; then it is its unit's lowest among the inputs passed (`steps_here`).
+use Prim.Native.Nat.{◌+◌, ◌-◌}
+use mathlib.Core.Path.{sym, ap, ap₂, subst, ◌∙◌}
+use mathlib.Core.Bool.{not}
+use native.Mathlib.Omega.{arith}
+use lib.Dec.{T}
+use lib.ListN.{length, get_or}
+use borrow.Author.Tests.{not-true, not-false}
+use Rattle.search.specs.Truth.{says, denies}
+use Rattle.table.specs.Layout.{long_input_owners, long-kinds}
+use Rattle.bits.specs.Bits.{has}
+use Rattle.sorter.proofs.Passes.{Filled, filled_starts, filled_on, Steps, steps_start}
+use Rattle.sorter.proofs.Passes.{steps_owner, steps_delayed, steps_done}
+use Rattle.sorter.proofs.Passes.{steps_here, steps_end}
+use Rattle.sorter.proofs.lows.low_steps.Given as goal
+
+abbrev pub invariant-loop-u : goal.invariant-loop-u
+invariant-loop-u l = Filled 32 l.x l.lows l.u
+
+abbrev pub decreases-loop-u : goal.decreases-loop-u
+decreases-loop-u l = 32 - l.u
+
+abbrev pub invariant-loop-x : goal.invariant-loop-x
+invariant-loop-x l = Steps l.table (has l.marks) l.lows l.x
+
+abbrev pub decreases-loop-x : goal.decreases-loop-x
+decreases-loop-x l = l.x

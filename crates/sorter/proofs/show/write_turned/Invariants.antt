@@ -1,0 +1,13 @@
+-- What is written and what is to come is the list turned (`turning_on`).
+use Prim.Native.Nat.{◌-◌}
+use mathlib.Core.Logic.{⊎_elim, inl, inr}
+use native.Mathlib.Omega.{arith}
+use lib.ListN.{length}
+use Rattle.sorter.proofs.Turning.{Turning, turning_starts, turning_on, turning_ends}
+use Rattle.sorter.proofs.show.write_turned.Given as goal
+
+abbrev pub invariant-loop-to : goal.invariant-loop-to
+invariant-loop-to l = Turning l.bytes l.first l.initial.out l.out l.from l.to
+
+abbrev pub decreases-loop-to : goal.decreases-loop-to
+decreases-loop-to l = length l.bytes - l.to

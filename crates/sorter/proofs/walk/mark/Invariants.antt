@@ -1,0 +1,14 @@
+-- What is marked and what is to come on the thread are all its calls (`marking_on`).
+use Prim.Native.Nat.{◌-◌}
+use mathlib.Core.Path.{sym, subst}
+use lib.ListN.{get_or}
+use native.Mathlib.Omega.{arith}
+use Rattle.sorter.proofs.Trails.{Marking, marking_starts, marking_call}
+use Rattle.sorter.proofs.Trails.{marking_on, marking_ends}
+use Rattle.sorter.proofs.walk.mark.Given as goal
+
+abbrev pub invariant-loop-n : goal.invariant-loop-n
+invariant-loop-n l = Marking l.bytes l.count l.last l.marks l.n l.c
+
+abbrev pub decreases-loop-n : goal.decreases-loop-n
+decreases-loop-n l = l.n

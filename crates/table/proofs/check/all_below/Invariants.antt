@@ -1,0 +1,13 @@
+-- Every byte passed so far is below the bound.
+use Prim.Native.Nat.{◌≤◌, ◌-◌}
+use lib.ListN.{length}
+use borrow.Author.Count.{below_more}
+use Rattle.table.proofs.Checking.{Below, below_this, below-stop, below_end}
+use native.Mathlib.Omega.{arith}
+use Rattle.table.proofs.check.all_below.Given as goal
+
+abbrev pub invariant-loop-i : goal.invariant-loop-i
+invariant-loop-i l = (l.i ≤ length l.bytes) × Below l.bytes l.bound l.i
+
+abbrev pub decreases-loop-i : goal.decreases-loop-i
+decreases-loop-i l = length l.bytes - l.i

@@ -1,0 +1,19 @@
+-- The count is a byte of the table.
+use native.Mathlib.Omega.{arith}
+use mathlib.Core.Path.{refl}
+use Rattle.table.specs.Packed.{feeds}
+use Rattle.table.proofs.sound.feed_count.Goals as goal
+
+pub bounds-table-3 : goal.bounds-table-3
+bounds-table-3 c = omega (arith, c.requires.four)
+
+pub overflow_cast-result : goal.overflow_cast-result
+overflow_cast-result c = omega (arith, c.shared_slice_known-1.given 3)
+
+pub returns : goal.returns
+unfolding feeds
+returns c =
+    record {
+      value = refl;
+      upper_bound = omega (arith, c.shared_slice_known-1.given 3);
+    }
