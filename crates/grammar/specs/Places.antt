@@ -1,6 +1,6 @@
 -- The place of the first that passes, as the least number that passes.
 use Prim.Native.Nat.{ℕ, zero, suc, ◌<◌}
-use Rattle.std.specs.Prelude.{◌≡◌, Bool, cond, length, get_or}
+use Rattle.std.specs.Prelude.{◌≡◌, Bool, cond, length, get_or, T, not}
 use Rattle.std.proofs.Math.Path.{refl}
 use Rattle.std.proofs.Math.Bool.{true, false}
 use mathlib.Core.List.{List, [], ◌∷◌}
@@ -28,7 +28,9 @@ module _ {A : Type 0} (p : A → Bool) (e : A) where
       go false q l = record {
         high = omega (arith, l.high);
         passes = λ h. l.passes (omega arith);
-        below = λ i. elim i [ zero ↦ λ h. rw q tt | suc i ↦ λ h. l.below i (omega arith) ];
+        below =
+            λ i. elim i as (λ k. k < suc (place p xs) → T (not (p (get_or (x ∷ xs) k e))))
+            [ zero ↦ λ h. rw q tt | suc i ↦ λ h. l.below i (omega arith) ];
       }
 
   -- found by a search by places

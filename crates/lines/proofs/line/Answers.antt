@@ -9,8 +9,8 @@ use Rattle.lines.proofs.line.Goals as goal
 pub word-requires : goal.word-requires
 word-requires c =
     record {
-      told = c.requires.1;
-      i_bound = (omega arith, c.requires.1.some);
+      told = c.requires.told;
+      i_bound = (omega arith, c.requires.told.some);
     }
 
 pub returns-in-1 : goal.returns-in-1

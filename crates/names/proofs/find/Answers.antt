@@ -8,7 +8,7 @@ overflow_add-result c =
     omega (
       arith,
       (c.seek-spot.ensures.taken c.if-spot.true).0,
-      c.requires.0.low,
+      c.requires.ranked.low,
     )
 
 pub bounds-slots-base : goal.bounds-slots-base
@@ -16,18 +16,18 @@ bounds-slots-base c =
     omega (
       arith,
       (c.seek-spot.ensures.taken c.if-spot.true).0,
-      c.requires.0.low,
+      c.requires.ranked.low,
     )
 
 pub overflow_cast-result : goal.overflow_cast-result
 overflow_cast-result c =
-    omega (arith, c.requires.0.number _ (c.seek-spot.ensures.taken c.if-spot.true).0,
-    c.requires.0.low)
+    omega (arith, c.requires.ranked.number _ (c.seek-spot.ensures.taken c.if-spot.true).0,
+    c.requires.ranked.low)
 
 pub returns-then-spot : goal.returns-then-spot
 returns-then-spot c =
-    taken-least _ _ _ _ _ c.requires.0 _ _ _ _ c.seek-spot.ensures c.if-spot.true
+    taken-least _ _ _ _ _ c.requires.ranked _ _ _ _ c.seek-spot.ensures c.if-spot.true
 
 pub returns : goal.returns
 returns c =
-    free-least _ _ _ _ _ c.requires.0 _ _ _ _ c.seek-spot.ensures c.if-spot.false
+    free-least _ _ _ _ _ c.requires.ranked _ _ _ _ c.seek-spot.ensures c.if-spot.false

@@ -8,6 +8,7 @@ use Rattle.grammar.specs.Words.{lf}
 use Rattle.grammar.specs.Rows.{times}
 use Rattle.scan.proofs.Scanning.{counts, passes, times-all}
 use Rattle.scan.proofs.line_ends.Goals as goal
+use Rattle.scan.proofs.line_ends.Goals.{else-text-i-eq10, then-text-i-eq10}
 
 pub loop-i-init : goal.loop-i-init
 unfolding times
@@ -27,16 +28,20 @@ loop-i-smaller c = omega arith
 
 pub loop-i-preserved : goal.loop-i-preserved
 loop-i-preserved c =
-    ⊎_elim
-    (λ w. (
+    elim c.if-text-i-eq10.branch [
+      | then-text-i-eq10 w ↦
+          (
       omega arith,
       (omega (arith, w.1), w.1 ∙ counts _ _ _ c.loop-i-test.true c.loop-i.invariant.1.1
-      w.0.taken),
-    ))
-    (λ w. (
+      w.if-text-i-eq10.true),
+    )
+      | else-text-i-eq10 w ↦
+          (
       omega arith,
-      (omega (arith, w.1), w.1 ∙ passes _ _ _ c.loop-i-test.true c.loop-i.invariant.1.1 w.0.left),
-    )) c.if-text-i-eq10.branch
+      (omega (arith, w.1), w.1 ∙ passes _ _ _ c.loop-i-test.true c.loop-i.invariant.1.1
+      w.if-text-i-eq10.false),
+    )
+    ]
 
 pub returns : goal.returns
 returns c =

@@ -15,7 +15,8 @@ returns-then-not-marked c =
     ∙ c.if-not-marked.true-raw)
 
 pub overflow_cast-output : goal.overflow_cast-output
-overflow_cast-output c = omega (arith, output-small _ c.requires.0 _ c.requires.1)
+overflow_cast-output c =
+    omega (arith, output-small _ c.requires.table_value _ c.requires.output_bound)
 
 pub some_lacking-requires : goal.some_lacking-requires
 some_lacking-requires c =

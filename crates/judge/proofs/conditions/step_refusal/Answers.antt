@@ -10,11 +10,12 @@ pub returns-then-again : goal.returns-then-again
 returns-then-again c = step_12 _ _ _ _ c.if-again.true
 
 pub overflow_cast-this : goal.overflow_cast-this
-overflow_cast-this c = omega (arith, unit-small _ c.requires.0 _ c.requires.1)
+overflow_cast-this c =
+    omega (arith, unit-small _ c.requires.table_value _ c.requires.unit_bound)
 
 pub some_amiss-requires : goal.some_amiss-requires
 some_amiss-requires c =
-    let all = inputs-room _ c.requires.0 _ _ c.unit_count.ensures.value
+    let all = inputs-room _ c.requires.table_value _ _ c.unit_count.ensures.value
     c.output_count.ensures.value _ _ c.input_owners-owners.ensures
     c.input_kinds-kinds.ensures in
     record { kinds_len = all.0; owners_bound = all.1 }
@@ -31,7 +32,7 @@ returns-then-not-some_amiss c =
 
 pub some_amiss-requires-2 : goal.some_amiss-requires-2
 some_amiss-requires-2 c =
-    let all = inputs-room _ c.requires.0 _ _ c.unit_count.ensures.value
+    let all = inputs-room _ c.requires.table_value _ _ c.unit_count.ensures.value
     c.output_count.ensures.value _ _ c.input_owners-owners.ensures
     c.input_kinds-kinds.ensures in
     record { kinds_len = all.0; owners_bound = all.1 }

@@ -12,7 +12,7 @@ overflow_cast-input c = byte_fits _ (c.shared_slice_known-3-1.given _).fits
 
 pub overflow_add-first : goal.overflow_add-first
 overflow_add-first c =
-    sum_fits _ _ c.requires.1 (c.shared_slice_known-3-1.given _).fits
+    sum_fits _ _ c.requires.first_bound (c.shared_slice_known-3-1.given _).fits
 
 pub returns : goal.returns
 returns c =

@@ -14,8 +14,8 @@ returns-then-bad-ne0 c =
 pub word-requires : goal.word-requires
 word-requires c =
     record {
-      told = c.requires.1;
-      i_bound = (omega arith, has_field _ _ _ _ _ _ c.requires.1 4 2 _ 3
+      told = c.requires.told;
+      i_bound = (omega arith, has_field _ _ _ _ _ _ c.requires.told 4 2 _ 3
       c.shape-bad.ensures.number c.if-bad-ne0.false (omega arith));
     }
 
@@ -23,18 +23,18 @@ pub returns-then-kind-eq2 : goal.returns-then-kind-eq2
 returns-then-kind-eq2 c =
     let lets = shape_lets _ 4 2 _ c.shape-bad.ensures.number c.if-bad-ne0.false in
     stops _ _ _ _ _ _ _ 28 4 _ c.refused.ensures (λ z. omega arith)
-    (in_28 _ _ _ _ c.requires.0 _ _ c.requires.1
+    (in_28 _ _ _ _ c.requires.fit _ _ c.requires.told
     c.args.line lets _ c.word.ensures.result_value _ c.kind_of-kind.ensures c.if-kind-eq2.true)
 
 pub word-owner-requires : goal.word-owner-requires
 word-owner-requires c =
-    (c.requires.1, (omega arith, has_field _ _ _ _ _ _ c.requires.1 4 2 _ 1
+    (c.requires.told, (omega arith, has_field _ _ _ _ _ _ c.requires.told 4 2 _ 1
     c.shape-bad.ensures.number c.if-bad-ne0.false (omega arith)))
 
 pub find-u-requires : goal.find-u-requires
 find-u-requires c =
     (
-  c.requires.0.units-ranked,
+  c.requires.fit.units-ranked,
   c.word-owner.ensures.wordy,
 )
 
@@ -42,13 +42,13 @@ pub returns-then-units-u : goal.returns-then-units-u
 returns-then-units-u c =
     let lets = shape_lets _ 4 2 _ c.shape-bad.ensures.number c.if-bad-ne0.false in
     stops _ _ _ _ _ _ _ 27 2 _ c.refused-then-units-u.ensures (λ z. omega arith)
-    (in_27 _ _ _ _ c.requires.0 _ _ c.requires.1
+    (in_27 _ _ _ _ c.requires.fit _ _ c.requires.told
     c.args.line lets _ c.word.ensures.result_value _ c.kind_of-kind.ensures c.if-kind-eq2.false _
     c.word-owner.ensures.result_value _ c.find-u.ensures c.if-units-u.true)
 
 pub word-name-requires : goal.word-name-requires
 word-name-requires c =
-    (c.requires.1, (omega arith, has_field _ _ _ _ _ _ c.requires.1 4 2 _ 2
+    (c.requires.told, (omega arith, has_field _ _ _ _ _ _ c.requires.told 4 2 _ 2
     c.shape-bad.ensures.number c.if-bad-ne0.false (omega arith)))
 
 pub overflow_cast-u : goal.overflow_cast-u
@@ -56,13 +56,13 @@ overflow_cast-u c =
     omega (
       arith,
       c.if-units-u.false,
-      c.requires.0.units-most,
+      c.requires.fit.units-most,
     )
 
 pub seek-input-requires : goal.seek-input-requires
 seek-input-requires c =
     (
-  c.requires.0.inputs-ranked,
+  c.requires.fit.inputs-ranked,
   c.word-name.ensures.wordy,
 )
 
@@ -70,7 +70,7 @@ pub returns-then-input : goal.returns-then-input
 returns-then-input c =
     let lets = shape_lets _ 4 2 _ c.shape-bad.ensures.number c.if-bad-ne0.false in
     stops _ _ _ _ _ _ _ 26 3 _ c.refused-then-input.ensures (λ z. omega arith)
-    (in_26 _ _ _ _ c.requires.0 _ _ c.requires.1
+    (in_26 _ _ _ _ c.requires.fit _ _ c.requires.told
     c.args.line lets _ c.word.ensures.result_value _ c.kind_of-kind.ensures c.if-kind-eq2.false _
     c.word-owner.ensures.result_value _ c.find-u.ensures c.if-units-u.false _
     c.word-name.ensures.result_value _ _ c.seek-input.ensures c.if-input.true)
@@ -79,7 +79,7 @@ pub returns-then-inputs-ge96 : goal.returns-then-inputs-ge96
 returns-then-inputs-ge96 c =
     let lets = shape_lets _ 4 2 _ c.shape-bad.ensures.number c.if-bad-ne0.false in
     stops _ _ _ _ _ _ _ 29 0 _ c.refused-then-inputs-ge96.ensures (λ z. omega arith)
-    (in_29 _ _ _ _ c.requires.0 _ _ c.requires.1
+    (in_29 _ _ _ _ c.requires.fit _ _ c.requires.told
     c.args.line lets _ c.word.ensures.result_value _ c.kind_of-kind.ensures c.if-kind-eq2.false _
     c.word-owner.ensures.result_value _ c.find-u.ensures c.if-units-u.false _
     c.word-name.ensures.result_value _ _ c.seek-input.ensures c.if-input.false
@@ -91,7 +91,7 @@ named-requires c =
   omega (
     arith,
     c.if-units-u.false,
-    c.requires.0.units-most,
+    c.requires.fit.units-most,
   ),
   omega (
     arith,
@@ -103,7 +103,7 @@ named-requires c =
 pub returns : goal.returns
 returns c =
     let lets = shape_lets _ 4 2 _ c.shape-bad.ensures.number c.if-bad-ne0.false in
-    handed c.named.ensures (in_takes _ _ _ _ c.requires.0 _ _ c.requires.1 c.args.line lets _
+    handed c.named.ensures (in_takes _ _ _ _ c.requires.fit _ _ c.requires.told c.args.line lets _
     c.word.ensures.result_value _ c.kind_of-kind.ensures c.if-kind-eq2.false _
     c.word-owner.ensures.result_value _ c.find-u.ensures c.if-units-u.false _
     c.word-name.ensures.result_value _ _ c.seek-input.ensures c.if-input.false

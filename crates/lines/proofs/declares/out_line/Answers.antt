@@ -13,22 +13,22 @@ returns-then-bad-ne0 c =
 
 pub word-owner-requires : goal.word-owner-requires
 word-owner-requires c =
-    (c.requires.1, (omega arith, has_field _ _ _ _ _ _ c.requires.1 3 2 _ 1
+    (c.requires.told, (omega arith, has_field _ _ _ _ _ _ c.requires.told 3 2 _ 1
     c.shape-bad.ensures.number c.if-bad-ne0.false (omega arith)))
 
 pub find-u-requires : goal.find-u-requires
-find-u-requires c = (c.requires.0.units-ranked, c.word-owner.ensures.wordy)
+find-u-requires c = (c.requires.fit.units-ranked, c.word-owner.ensures.wordy)
 
 pub returns-then-units-u : goal.returns-then-units-u
 returns-then-units-u c =
     let lets = shape_lets _ 3 2 _ c.shape-bad.ensures.number c.if-bad-ne0.false in
     stops _ _ _ _ _ _ _ 27 2 _ c.refused.ensures (λ z. omega arith)
-    (out_27 _ _ _ _ c.requires.0 _ _ c.requires.1
+    (out_27 _ _ _ _ c.requires.fit _ _ c.requires.told
     c.args.line lets _ c.word-owner.ensures.result_value _ c.find-u.ensures c.if-units-u.true)
 
 pub word-name-requires : goal.word-name-requires
 word-name-requires c =
-    (c.requires.1, (omega arith, has_field _ _ _ _ _ _ c.requires.1 3 2 _ 2
+    (c.requires.told, (omega arith, has_field _ _ _ _ _ _ c.requires.told 3 2 _ 2
     c.shape-bad.ensures.number c.if-bad-ne0.false (omega arith)))
 
 pub overflow_cast-u : goal.overflow_cast-u
@@ -36,13 +36,13 @@ overflow_cast-u c =
     omega (
       arith,
       c.if-units-u.false,
-      c.requires.0.units-most,
+      c.requires.fit.units-most,
     )
 
 pub seek-output-requires : goal.seek-output-requires
 seek-output-requires c =
     (
-  c.requires.0.outputs-ranked,
+  c.requires.fit.outputs-ranked,
   c.word-name.ensures.wordy,
 )
 
@@ -50,8 +50,8 @@ pub returns-then-output : goal.returns-then-output
 returns-then-output c =
     let lets = shape_lets _ 3 2 _ c.shape-bad.ensures.number c.if-bad-ne0.false in
     stops _ _ _ _ _ _ _ 26 3 _ c.refused-then-output.ensures (λ z. omega arith)
-    (out_26 _ _ _ _ c.requires.0 _ _
-    c.requires.1 c.args.line lets _ c.word-owner.ensures.result_value _ c.find-u.ensures
+    (out_26 _ _ _ _ c.requires.fit _ _
+    c.requires.told c.args.line lets _ c.word-owner.ensures.result_value _ c.find-u.ensures
     c.if-units-u.false _ c.word-name.ensures.result_value _ _ c.seek-output.ensures
     c.if-output.true)
 
@@ -59,8 +59,8 @@ pub returns-then-outputs-ge96 : goal.returns-then-outputs-ge96
 returns-then-outputs-ge96 c =
     let lets = shape_lets _ 3 2 _ c.shape-bad.ensures.number c.if-bad-ne0.false in
     stops _ _ _ _ _ _ _ 29 0 _ c.refused-then-outputs-ge96.ensures (λ z. omega arith)
-    (out_29 _ _ _ _ c.requires.0 _ _
-    c.requires.1 c.args.line lets _ c.word-owner.ensures.result_value _ c.find-u.ensures
+    (out_29 _ _ _ _ c.requires.fit _ _
+    c.requires.told c.args.line lets _ c.word-owner.ensures.result_value _ c.find-u.ensures
     c.if-units-u.false _ c.word-name.ensures.result_value _ _ c.seek-output.ensures
     c.if-output.false c.if-outputs-ge96.true)
 
@@ -70,7 +70,7 @@ named-requires c =
   omega (
     arith,
     c.if-units-u.false,
-    c.requires.0.units-most,
+    c.requires.fit.units-most,
   ),
   omega (
     arith,
@@ -83,7 +83,7 @@ named-requires c =
 pub returns : goal.returns
 returns c =
     let lets = shape_lets _ 3 2 _ c.shape-bad.ensures.number c.if-bad-ne0.false in
-    handed c.named.ensures (out_takes _ _ _ _ c.requires.0 _ _ c.requires.1 c.args.line lets _
-    c.word-owner.ensures.result_value _ c.find-u.ensures c.if-units-u.false _
+    handed c.named.ensures (out_takes _ _ _ _ c.requires.fit _ _ c.requires.told c.args.line lets
+    _ c.word-owner.ensures.result_value _ c.find-u.ensures c.if-units-u.false _
     c.word-name.ensures.result_value _ _ c.seek-output.ensures c.if-output.false
     c.if-outputs-ge96.false)

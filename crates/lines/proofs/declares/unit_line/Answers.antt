@@ -12,26 +12,26 @@ returns-then-bad-ne0 c =
 
 pub word-name-requires : goal.word-name-requires
 word-name-requires c =
-    (c.requires.1, (omega arith, has_field _ _ _ _ _ _ c.requires.1 2 1 _ 1
+    (c.requires.told, (omega arith, has_field _ _ _ _ _ _ c.requires.told 2 1 _ 1
     c.shape-bad.ensures.number c.if-bad-ne0.false (omega arith)))
 
 pub seek-unit-requires : goal.seek-unit-requires
-seek-unit-requires c = (c.requires.0.units-ranked, c.word-name.ensures.wordy)
+seek-unit-requires c = (c.requires.fit.units-ranked, c.word-name.ensures.wordy)
 
 pub returns-then-unit : goal.returns-then-unit
 returns-then-unit c =
     let lets = shape_lets _ 2 1 _ c.shape-bad.ensures.number c.if-bad-ne0.false in
     stops _ _ _ _ _ _ _ 26 2 _ c.refused.ensures (λ z. omega arith)
-    (unit_26 _ _ _ _ c.requires.0 _ _
-    c.requires.1 c.args.line lets _ c.word-name.ensures.result_value _ _ c.seek-unit.ensures
+    (unit_26 _ _ _ _ c.requires.fit _ _
+    c.requires.told c.args.line lets _ c.word-name.ensures.result_value _ _ c.seek-unit.ensures
     c.if-unit.true)
 
 pub returns-then-units-ge32 : goal.returns-then-units-ge32
 returns-then-units-ge32 c =
     let lets = shape_lets _ 2 1 _ c.shape-bad.ensures.number c.if-bad-ne0.false in
     stops _ _ _ _ _ _ _ 29 0 _ c.refused-then-units-ge32.ensures (λ z. omega arith)
-    (unit_29 _ _ _ _ c.requires.0 _ _
-    c.requires.1 c.args.line lets _ c.word-name.ensures.result_value _ _ c.seek-unit.ensures
+    (unit_29 _ _ _ _ c.requires.fit _ _
+    c.requires.told c.args.line lets _ c.word-name.ensures.result_value _ _ c.seek-unit.ensures
     c.if-unit.false c.if-units-ge32.true)
 
 pub named-requires : goal.named-requires
@@ -48,6 +48,6 @@ named-requires c =
 pub returns : goal.returns
 returns c =
     let lets = shape_lets _ 2 1 _ c.shape-bad.ensures.number c.if-bad-ne0.false in
-    handed c.named.ensures (unit-takes _ _ _ _ c.requires.0 _ _ c.requires.1 c.args.line lets _
-    c.word-name.ensures.result_value _ _ c.seek-unit.ensures c.if-unit.false
+    handed c.named.ensures (unit-takes _ _ _ _ c.requires.fit _ _ c.requires.told c.args.line lets
+    _ c.word-name.ensures.result_value _ _ c.seek-unit.ensures c.if-unit.false
     c.if-units-ge32.false)

@@ -13,17 +13,17 @@ returns-then-bad-ne0 c =
 pub port-from-requires : goal.port-from-requires
 port-from-requires c =
     (
-      c.requires.0,
+      c.requires.fit,
       (
-        c.requires.1,
+        c.requires.told,
         (
           (
             omega arith,
-            has_field _ _ _ _ _ _ c.requires.1 5 4 _ 2 c.shape-bad.ensures.number
+            has_field _ _ _ _ _ _ c.requires.told 5 4 _ 2 c.shape-bad.ensures.number
             c.if-bad-ne0.false (omega
                 arith),
           ),
-          c.requires.0.outputs-ranked,
+          c.requires.fit.outputs-ranked,
         ),
       ),
     )
@@ -32,23 +32,23 @@ pub returns-then-from-ne0 : goal.returns-then-from-ne0
 returns-then-from-ne0 c =
     let lets = shape_lets _ 5 4 _ c.shape-bad.ensures.number c.if-bad-ne0.false in
     stops _ _ _ _ _ _ _ 27 _ _ c.refused.ensures (λ z. omega arith)
-    (join_27_from _ _ _ _ c.requires.0 _
+    (join_27_from _ _ _ _ c.requires.fit _
     c.args.line lets _ c.port-from.ensures c.if-from-ne0.true)
 
 pub port-to-requires : goal.port-to-requires
 port-to-requires c =
     (
-      c.requires.0,
+      c.requires.fit,
       (
-        c.requires.1,
+        c.requires.told,
         (
           (
             omega arith,
-            has_field _ _ _ _ _ _ c.requires.1 5 4 _ 4 c.shape-bad.ensures.number
+            has_field _ _ _ _ _ _ c.requires.told 5 4 _ 4 c.shape-bad.ensures.number
             c.if-bad-ne0.false (omega
                 arith),
           ),
-          c.requires.0.inputs-ranked,
+          c.requires.fit.inputs-ranked,
         ),
       ),
     )
@@ -57,7 +57,7 @@ pub returns-then-to-ne0 : goal.returns-then-to-ne0
 returns-then-to-ne0 c =
     let lets = shape_lets _ 5 4 _ c.shape-bad.ensures.number c.if-bad-ne0.false in
     stops _ _ _ _ _ _ _ 27 _ _ c.refused-then-to-ne0.ensures (λ z. omega arith)
-    (join_27_to _ _ _ _ c.requires.0 _
+    (join_27_to _ _ _ _ c.requires.fit _
     c.args.line lets _ c.port-from.ensures c.if-from-ne0.false _ c.port-to.ensures
     c.if-to-ne0.true)
 
@@ -66,7 +66,7 @@ overflow_add-x c =
     omega (
       arith,
       (c.port-to.ensures.some c.if-to-ne0.false).1.0,
-      c.requires.0.inputs-most,
+      c.requires.fit.inputs-most,
     )
 
 pub bounds-slots-x : goal.bounds-slots-x
@@ -74,14 +74,14 @@ bounds-slots-x c =
     omega (
       arith,
       (c.port-to.ensures.some c.if-to-ne0.false).1.0,
-      c.requires.0.inputs-most,
+      c.requires.fit.inputs-most,
     )
 
 pub returns-then-slots-x : goal.returns-then-slots-x
 returns-then-slots-x c =
     let lets = shape_lets _ 5 4 _ c.shape-bad.ensures.number c.if-bad-ne0.false in
     stops _ _ _ _ _ _ _ 30 5 _ c.refused-then-slots-x.ensures (λ z. omega arith)
-    (join_30 _ _ _ _ c.requires.0 _ c.args.line
+    (join_30 _ _ _ _ c.requires.fit _ c.args.line
     lets _ c.port-from.ensures c.if-from-ne0.false _ c.port-to.ensures c.if-to-ne0.false
     c.if-slots-x.true)
 
@@ -91,19 +91,19 @@ wired-requires c =
   omega (
     arith,
     (c.port-to.ensures.some c.if-to-ne0.false).1.0,
-    c.requires.0.inputs-most,
+    c.requires.fit.inputs-most,
   ),
   omega (
     arith,
     (c.port-from.ensures.some
         c.if-from-ne0.false).1.0,
-    c.requires.0.outputs-most,
+    c.requires.fit.outputs-most,
   ),
 )
 
 pub returns : goal.returns
 returns c =
     let lets = shape_lets _ 5 4 _ c.shape-bad.ensures.number c.if-bad-ne0.false in
-    handed c.wired.ensures (join-takes _ _ _ _ c.requires.0 _ c.args.line lets _
+    handed c.wired.ensures (join-takes _ _ _ _ c.requires.fit _ c.args.line lets _
     c.port-from.ensures c.if-from-ne0.false _ c.port-to.ensures c.if-to-ne0.false
     c.if-slots-x.false)

@@ -5,16 +5,16 @@ use Rattle.lines.proofs.ports.port.Goals as goal
 
 pub word-owner-requires : goal.word-owner-requires
 word-owner-requires c =
-    (c.requires.1.0, (omega (arith, c.requires.1.1.0.0), omega (arith, c.requires.1.1.0.1)))
+    (c.requires.told, (omega (arith, c.requires.i_bound.0), omega (arith, c.requires.i_bound.1)))
 
 pub find-u-requires : goal.find-u-requires
-find-u-requires c = (c.requires.0.units-ranked, c.word-owner.ensures.wordy)
+find-u-requires c = (c.requires.fit.units-ranked, c.word-owner.ensures.wordy)
 
 pub overflow_cast-result : goal.overflow_cast-result
-overflow_cast-result c = omega (arith, c.requires.1.1.0.0)
+overflow_cast-result c = omega (arith, c.requires.i_bound.0)
 
 pub overflow_add-result : goal.overflow_add-result
-overflow_add-result c = omega (arith, c.requires.1.1.0.0)
+overflow_add-result c = omega (arith, c.requires.i_bound.0)
 
 pub returns-then-units-u : goal.returns-then-units-u
 returns-then-units-u c =
@@ -22,28 +22,28 @@ returns-then-units-u c =
     c.if-units-u.true
 
 pub overflow_add-i : goal.overflow_add-i
-overflow_add-i c = omega (arith, c.requires.1.1.0.0)
+overflow_add-i c = omega (arith, c.requires.i_bound.0)
 
 pub word-name-requires : goal.word-name-requires
 word-name-requires c =
-    (c.requires.1.0, (omega (arith, c.requires.1.1.0.0), c.requires.1.1.0.1))
+    (c.requires.told, (omega (arith, c.requires.i_bound.0), c.requires.i_bound.1))
 
 pub overflow_cast-u : goal.overflow_cast-u
 overflow_cast-u c =
     omega (
       arith,
       c.if-units-u.false,
-      c.requires.0.units-most,
+      c.requires.fit.units-most,
     )
 
 pub find-x-requires : goal.find-x-requires
-find-x-requires c = (c.requires.1.1.1, c.word-name.ensures.wordy)
+find-x-requires c = (c.requires.ranked, c.word-name.ensures.wordy)
 
 pub overflow_cast-result-then-count-x : goal.overflow_cast-result-then-count-x
-overflow_cast-result-then-count-x c = omega (arith, c.requires.1.1.0.0)
+overflow_cast-result-then-count-x c = omega (arith, c.requires.i_bound.0)
 
 pub overflow_add-result-then-count-x : goal.overflow_add-result-then-count-x
-overflow_add-result-then-count-x c = omega (arith, c.requires.1.1.0.0)
+overflow_add-result-then-count-x c = omega (arith, c.requires.i_bound.0)
 
 pub returns-then-count-x : goal.returns-then-count-x
 returns-then-count-x c =

@@ -19,7 +19,7 @@ pub overflow_sub-size : goal.overflow_sub-size
 overflow_sub-size c =
     omega (
       arith,
-      field_size _ _ _ _ _ _ c.requires.0
+      field_size _ _ _ _ _ _ c.requires.told
           (c.loop-i.i + 1) (omega arith) (omega arith),
     )
 
@@ -28,7 +28,7 @@ overflow_cast-result c =
     omega (
   arith,
   c.loop-i-test.true,
-  c.requires.1.0,
+  c.requires.names_bound.0,
 )
 
 pub returns-then-size-eq0 : goal.returns-then-size-eq0
@@ -37,7 +37,7 @@ returns-then-size-eq0 c =
     (no_name_empty _
     (omega (
       arith,
-      field_size _ _ _ _ _ _ c.requires.0
+      field_size _ _ _ _ _ _ c.requires.told
           (c.loop-i.i + 1) (omega arith) (omega arith),
     ))) c.loop-i-test.true
 
@@ -46,7 +46,7 @@ overflow_cast-result-then-size-gt16 c =
     omega (
   arith,
   c.loop-i-test.true,
-  c.requires.1.0,
+  c.requires.names_bound.0,
 )
 
 pub returns-then-size-gt16 : goal.returns-then-size-gt16
@@ -55,7 +55,7 @@ returns-then-size-gt16 c =
     (no_name_long _
     (omega (
       arith,
-      field_size _ _ _ _ _ _ c.requires.0
+      field_size _ _ _ _ _ _ c.requires.told
           (c.loop-i.i + 1) (omega arith) (omega arith),
     ))) c.loop-i-test.true
 
@@ -72,12 +72,12 @@ loop-i-preserved c =
       c.if-size-eq0.false
       (omega (
         arith,
-        field_size _ _ _ _ _ _ c.requires.0
+        field_size _ _ _ _ _ _ c.requires.told
             (c.loop-i.i + 1) (omega arith) (omega arith),
       )))
       (omega (
         arith,
-        field_size _ _ _ _ _ _ c.requires.0
+        field_size _ _ _ _ _ _ c.requires.told
             (c.loop-i.i + 1) (omega arith) (omega arith),
       ))),
 )

@@ -11,6 +11,7 @@ use Rattle.placing.proofs.Noted.{within-half}
 use Rattle.placing.proofs.Blocked.{reach, feeds-long, feeds-fit, feeds-room, feeds_on}
 use Rattle.placing.proofs.Blocked.{blocks_start, blocks_miss, blocks_end}
 use Rattle.placing.proofs.blocks.lower_feeds.Goals as goal
+use Rattle.placing.proofs.blocks.lower_feeds.Goals.{else-left-eq1, then-left-eq1}
 
 pub loop-left-init : goal.loop-left-init
 loop-left-init c =
@@ -40,7 +41,7 @@ pub slice_bounds-lower_fed-start : goal.slice_bounds-lower_fed-start
 slice_bounds-lower_fed-start c = omega (arith, c.least-a.ensures, c.least-z.ensures)
 
 pub slice_bounds-lower_fed-end : goal.slice_bounds-lower_fed-end
-slice_bounds-lower_fed-end c = omega (arith, c.least-z.ensures, c.requires.1.1.0)
+slice_bounds-lower_fed-end c = omega (arith, c.least-z.ensures, c.requires.pairs_len)
 
 pub overflow_sub-z : goal.overflow_sub-z
 overflow_sub-z c = omega (arith, c.least-a.ensures, c.least-z.ensures)
@@ -76,24 +77,27 @@ loop-left-preserved c =
     let at = fed c.args.pairs.now c.args.first in
     (
       omega (arith, c.loop-left.invariant.0, c.loop-left-test.true),
-      within-half q c.args.count c.loop-left.from c.loop-left.false 32 (λ i h. omega arith)
+      within-half q c.args.count c.loop-left.from c.loop-left.left 32 (λ i h. omega arith)
       c.loop-left.invariant.1,
-      ⊎_elim
-          (λ w. rw (w.7, w.8)
+      elim c.if-left-eq1.branch [
+      | then-left-eq1 w ↦
+          rw (w.7, w.8)
           (feeds_on c.args.pairs.now c.args.count c.args.input c.args.first c.loop-left.from
           w.1.result
           w.2.result w.1.ensures w.2.ensures c.requires.pairs_len _ _ _ _ _ _
           c.loop-left.invariant.2
-          w.6.ensures))
-          (λ w. rw (w.1, w.2)
-          (blocks_miss q at c.args.count c.loop-left.from 32 c.loop-left.false _ _ _ _
-          c.loop-left.invariant.1 w.0.left
-          c.loop-left.invariant.2)) c.if-left-eq1.branch,
+          w.6.ensures)
+      | else-left-eq1 w ↦
+          rw (w.1, w.2)
+          (blocks_miss q at c.args.count c.loop-left.from 32 c.loop-left.left _ _ _ _
+          c.loop-left.invariant.1 w.if-left-eq1.false
+          c.loop-left.invariant.2)
+    ],
     )
 
 pub returns : goal.returns
 returns c =
     blocks_end (is_input c.args.pairs.now c.args.input) (fed c.args.pairs.now c.args.first)
     c.args.count
-    c.loop-left.from 32 c.loop-left.false _ _ _ _ c.loop-left.invariant.1 c.loop-left-test.false
+    c.loop-left.from 32 c.loop-left.left _ _ _ _ c.loop-left.invariant.1 c.loop-left-test.false
     c.loop-left.invariant.2

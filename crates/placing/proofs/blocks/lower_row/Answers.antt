@@ -12,6 +12,7 @@ use Rattle.placing.proofs.Noted.{within-half}
 use Rattle.placing.proofs.Blocked.{reach, row_fits, row_room, row_on}
 use Rattle.placing.proofs.Blocked.{blocks_start, blocks_miss, blocks_end}
 use Rattle.placing.proofs.blocks.lower_row.Goals as goal
+use Rattle.placing.proofs.blocks.lower_row.Goals.{else-left-eq1, then-left-eq1}
 
 pub loop-left-init : goal.loop-left-init
 loop-left-init c =
@@ -36,7 +37,7 @@ slice_bounds-lower_keyed-end c = omega (arith, c.least-z.ensures)
 
 pub overflow_add-first : goal.overflow_add-first
 overflow_add-first c =
-    record { fits = omega (arith, c.least-a.ensures, c.requires.1.1.1.1.0) }
+    record { fits = omega (arith, c.least-a.ensures, c.requires.keys_bound) }
 
 pub lower_keyed-requires : goal.lower_keyed-requires
 lower_keyed-requires c =
@@ -63,22 +64,25 @@ loop-left-preserved c =
     (
       omega (arith, c.loop-left.invariant.0, c.loop-left-test.true),
       within-half (is_key c.args.keys.now c.args.key) (length c.args.keys.now) c.loop-left.from
-      c.loop-left.false 24
+      c.loop-left.left 24
           (λ i h. omega arith) c.loop-left.invariant.1,
-      ⊎_elim
-          (λ w. rw (w.7, w.8)
+      elim c.if-left-eq1.branch [
+      | then-left-eq1 w ↦
+          rw (w.7, w.8)
           (row_on c.args.keys.now c.args.key c.args.first c.loop-left.from w.1.result w.2.result
-          w.1.ensures w.2.ensures _ _ _ _ _ _ c.loop-left.invariant.2 w.6.ensures))
-          (λ w. rw (w.1, w.2)
+          w.1.ensures w.2.ensures _ _ _ _ _ _ c.loop-left.invariant.2 w.6.ensures)
+      | else-left-eq1 w ↦
+          rw (w.1, w.2)
           (blocks_miss (is_key c.args.keys.now c.args.key) (nth c.args.first)
           (length c.args.keys.now)
-          c.loop-left.from 24 c.loop-left.false _ _ _ _ c.loop-left.invariant.1 w.0.left
-          c.loop-left.invariant.2)) c.if-left-eq1.branch,
+          c.loop-left.from 24 c.loop-left.left _ _ _ _ c.loop-left.invariant.1 w.if-left-eq1.false
+          c.loop-left.invariant.2)
+    ],
     )
 
 pub returns : goal.returns
 returns c =
     blocks_end (is_key c.args.keys.now c.args.key) (nth c.args.first) (length c.args.keys.now)
     c.loop-left.from 24
-    c.loop-left.false _ _ _ _ c.loop-left.invariant.1 c.loop-left-test.false
+    c.loop-left.left _ _ _ _ c.loop-left.invariant.1 c.loop-left-test.false
     c.loop-left.invariant.2

@@ -12,6 +12,7 @@ use Rattle.placing.proofs.Noted.{within-half}
 use Rattle.placing.proofs.Blocked.{reach, rows-fits, rows_alike, rows-room, rows_on}
 use Rattle.placing.proofs.Blocked.{blocks_start, blocks_miss, blocks_end}
 use Rattle.placing.proofs.blocks.lower_rows.Goals as goal
+use Rattle.placing.proofs.blocks.lower_rows.Goals.{else-left-eq1, then-left-eq1}
 
 pub loop-left-init : goal.loop-left-init
 loop-left-init c =
@@ -44,11 +45,12 @@ slice_bounds-lower_both-start-then-left-eq1 c = omega
     (arith, c.least-a.ensures, c.least-z.ensures)
 
 pub slice_bounds-lower_both-end-then-left-eq1 : goal.slice_bounds-lower_both-end-then-left-eq1
-slice_bounds-lower_both-end-then-left-eq1 c = omega (arith, c.least-z.ensures, c.requires.1.1.0)
+slice_bounds-lower_both-end-then-left-eq1 c = omega
+    (arith, c.least-z.ensures, c.requires.others_len)
 
 pub overflow_add-first : goal.overflow_add-first
 overflow_add-first c =
-    record { fits = omega (arith, c.least-a.ensures, c.requires.1.1.1.1.1.0) }
+    record { fits = omega (arith, c.least-a.ensures, c.requires.keys_bound) }
 
 pub lower_both-requires : goal.lower_both-requires
 lower_both-requires c =
@@ -81,23 +83,26 @@ loop-left-preserved c =
     let q = are_keys c.args.keys.now c.args.key c.args.others.now c.args.other in
     (
       omega (arith, c.loop-left.invariant.0, c.loop-left-test.true),
-      within-half q (length c.args.keys.now) c.loop-left.from c.loop-left.false 24
+      within-half q (length c.args.keys.now) c.loop-left.from c.loop-left.left 24
       (λ i h. omega arith) c.loop-left.invariant.1,
-      ⊎_elim
-          (λ w. rw (w.8, w.9)
+      elim c.if-left-eq1.branch [
+      | then-left-eq1 w ↦
+          rw (w.8, w.9)
           (rows_on c.args.keys.now c.args.key c.args.others.now c.args.other c.args.first
           c.loop-left.from
           w.1.result w.2.result w.1.ensures w.2.ensures c.requires.others_len _ _ _ _ _ _
-          c.loop-left.invariant.2 w.7.ensures))
-          (λ w. rw (w.1, w.2)
+          c.loop-left.invariant.2 w.7.ensures)
+      | else-left-eq1 w ↦
+          rw (w.1, w.2)
           (blocks_miss q (nth c.args.first) (length c.args.keys.now) c.loop-left.from 24
-          c.loop-left.false _ _ _ _
-          c.loop-left.invariant.1 w.0.left c.loop-left.invariant.2)) c.if-left-eq1.branch,
+          c.loop-left.left _ _ _ _
+          c.loop-left.invariant.1 w.if-left-eq1.false c.loop-left.invariant.2)
+    ],
     )
 
 pub returns : goal.returns
 returns c =
     blocks_end (are_keys c.args.keys.now c.args.key c.args.others.now c.args.other)
     (nth c.args.first)
-    (length c.args.keys.now) c.loop-left.from 24 c.loop-left.false _ _ _ _ c.loop-left.invariant.1
+    (length c.args.keys.now) c.loop-left.from 24 c.loop-left.left _ _ _ _ c.loop-left.invariant.1
     c.loop-left-test.false c.loop-left.invariant.2

@@ -9,27 +9,28 @@ use Rattle.placing.specs.Less.{called}
 use Rattle.placing.proofs.Noted.{Stands, stands_starts, stands-next, stands_on}
 use Rattle.placing.proofs.Noted.{noting_starts, noting_on, noting_all}
 use Rattle.placing.proofs.blocks.note.Goals as goal
+use Rattle.placing.proofs.blocks.note.Goals.{else-left-eq0, then-left-eq0}
 
 pub loop-i-init : goal.loop-i-init
 loop-i-init c =
     (
       search rules,
-      stands_starts c.args.low (length c.args.keys.now) c.requires.0,
+      stands_starts c.args.low (length c.args.keys.now) c.requires.low_bound,
       noting_starts (called c.args.keys.now) 24 c.args.low c.args.notes.now,
     )
 
 pub overflow_cast-key : goal.overflow_cast-key
 overflow_cast-key c =
-    record { fits = omega (arith, c.requires.1.1.0, c.requires.1.1.1 c.loop-i.i
+    record { fits = omega (arith, c.requires.notes_len_bound, c.requires.by_index c.loop-i.i
     c.loop-i-test.true) }
 
 pub bounds-notes-key : goal.bounds-notes-key
 bounds-notes-key c =
-    omega (arith, c.loop-i.invariant.2.long, c.requires.1.1.1 c.loop-i.i c.loop-i-test.true)
+    omega (arith, c.loop-i.invariant.2.long, c.requires.by_index c.loop-i.i c.loop-i-test.true)
 
 pub bounds-notes-key-in-loop-i : goal.bounds-notes-key-in-loop-i
 bounds-notes-key-in-loop-i c =
-    omega (arith, c.loop-i.invariant.2.long, c.requires.1.1.1 c.loop-i.i c.loop-i-test.true)
+    omega (arith, c.loop-i.invariant.2.long, c.requires.by_index c.loop-i.i c.loop-i-test.true)
 
 pub overflow_sub-left : goal.overflow_sub-left
 overflow_sub-left c = omega (arith, c.loop-i.invariant.1.places)
@@ -37,19 +38,22 @@ overflow_sub-left c = omega (arith, c.loop-i.invariant.1.places)
 pub loop-i-preserved : goal.loop-i-preserved
 loop-i-preserved c =
     let n = length c.args.keys.now in
-    let fits : called args.keys.now loop.i < length loop.notes = omega
+    let fits : called c.args.keys.now c.loop-i.i < length c.loop-i.notes = omega
     (arith, c.loop-i.invariant.2.long, c.requires.by_index c.loop-i.i c.loop-i-test.true) in
     (
       search rules,
-      ⊎_elim
-          (λ w. rw (w.1, w.2)
-          (stands-next c.args.low n c.requires.low_bound c.loop-i.i c.loop-i.bit c.loop-i.false
+      elim c.if-left-eq0.branch [
+      | then-left-eq0 w ↦
+          rw (w.1, w.2)
+          (stands-next c.args.low n c.requires.low_bound c.loop-i.i c.loop-i.bit c.loop-i.left
           c.requires.keys_len_bound c.loop-i-test.true c.loop-i.invariant.1
-          w.0.taken))
-          (λ w. rw (w.1, w.2)
-          (stands_on c.args.low n c.requires.low_bound c.loop-i.i c.loop-i.bit c.loop-i.false
+          w.if-left-eq0.true)
+      | else-left-eq0 w ↦
+          rw (w.1, w.2)
+          (stands_on c.args.low n c.requires.low_bound c.loop-i.i c.loop-i.bit c.loop-i.left
           c.requires.keys_len_bound c.loop-i-test.true c.loop-i.invariant.1
-          w.0.left)) c.if-left-eq0.branch,
+          w.if-left-eq0.false)
+    ],
       rw (c.loop-i.invariant.1.is c.loop-i-test.true)
           (noting_on (called c.args.keys.now) 24 c.args.low c.loop-i.i c.args.notes.now
           c.loop-i.notes fits

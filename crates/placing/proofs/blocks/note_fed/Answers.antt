@@ -17,21 +17,21 @@ loop-k-init c =
 
 pub overflow_cast-input : goal.overflow_cast-input
 overflow_cast-input c =
-    record { fits = omega (arith, c.requires.1.1.0, c.requires.1.1.1 c.loop-k.k
+    record { fits = omega (arith, c.requires.notes_len_bound, c.requires.by_index c.loop-k.k
     c.loop-k-test.true) }
 
 pub bounds-notes-input : goal.bounds-notes-input
 bounds-notes-input c =
-    omega (arith, c.loop-k.invariant.1.long, c.requires.1.1.1 c.loop-k.k c.loop-k-test.true)
+    omega (arith, c.loop-k.invariant.1.long, c.requires.by_index c.loop-k.k c.loop-k-test.true)
 
 pub bounds-notes-input-in-loop-k : goal.bounds-notes-input-in-loop-k
 bounds-notes-input-in-loop-k c =
-    omega (arith, c.loop-k.invariant.1.long, c.requires.1.1.1 c.loop-k.k c.loop-k-test.true)
+    omega (arith, c.loop-k.invariant.1.long, c.requires.by_index c.loop-k.k c.loop-k-test.true)
 
 pub loop-k-preserved : goal.loop-k-preserved
 loop-k-preserved c =
     let key = pair_input c.args.pairs.now in
-    let fits : key loop.k < length loop.notes = omega
+    let fits : key c.loop-k.k < length c.loop-k.notes = omega
     (arith, c.loop-k.invariant.1.long, c.requires.by_index c.loop-k.k c.loop-k-test.true) in
     (
       search rules,

@@ -34,20 +34,14 @@ lower_pair-requires-in-loop-k c =
     let at = fed c.args.pairs.now c.args.first in
     let lowered = lowers_next q at c.loop-k.k _ _ _ _ _ _ c.loop-k.invariant.1
     c.lower_pair.ensures in
-    (
-      lowered.falls.long ∙ c.requires.waiting_len,
-      (
-        lowered.words,
-        (
-          omega (arith, c.requires.pairs_len, c.loop-k-test.true),
-          (
-            c.requires.by_index (c.loop-k.k + 1) (omega (arith, c.loop-k-test.true)),
-            lower_room q at (c.loop-k.k + 1) c.args.count c.args.waiting.now _
-                (omega (arith, c.loop-k-test.true)) c.requires.by_index_2 lowered.falls,
-          ),
-        ),
-      ),
-    )
+    record {
+      waiting_len = lowered.falls.long ∙ c.requires.waiting_len;
+      words = lowered.words;
+      k_in_bounds = omega (arith, c.requires.pairs_len, c.loop-k-test.true);
+      k_bound = c.requires.by_index (c.loop-k.k + 1) (omega (arith, c.loop-k-test.true));
+      by_index = lower_room q at (c.loop-k.k + 1) c.args.count c.args.waiting.now _
+                (omega (arith, c.loop-k-test.true)) c.requires.by_index_2 lowered.falls;
+    }
 
 pub loop-k-preserved : goal.loop-k-preserved
 loop-k-preserved c =
@@ -65,21 +59,15 @@ pub lower_pair-requires-then-k-count : goal.lower_pair-requires-then-k-count
 lower_pair-requires-then-k-count c =
     let q = is_input c.args.pairs.now c.args.input in
     let at = fed c.args.pairs.now c.args.first in
-    (
-      c.loop-k.invariant.1.falls.long ∙ c.requires.waiting_len,
-      (
-        c.loop-k.invariant.1.words,
-        (
-          omega (arith, c.requires.pairs_len, c.if-k-count.true),
-          (
-            c.requires.by_index c.loop-k.k (omega (arith, c.if-k-count.true)),
-            lower_room q at c.loop-k.k c.args.count c.args.waiting.now _
-            (omega (arith, c.if-k-count.true))
-                c.requires.by_index_2 c.loop-k.invariant.1.falls,
-          ),
-        ),
-      ),
-    )
+    record {
+      waiting_len = c.loop-k.invariant.1.falls.long ∙ c.requires.waiting_len;
+      words = c.loop-k.invariant.1.words;
+      k_in_bounds = omega (arith, c.requires.pairs_len, c.if-k-count.true);
+      k_bound = c.requires.by_index c.loop-k.k (omega (arith, c.if-k-count.true));
+      by_index = lower_room q at c.loop-k.k c.args.count c.args.waiting.now _
+      (omega (arith, c.if-k-count.true))
+                c.requires.by_index_2 c.loop-k.invariant.1.falls;
+    }
 
 pub returns-then-k-count : goal.returns-then-k-count
 returns-then-k-count c =

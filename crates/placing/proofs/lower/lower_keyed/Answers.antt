@@ -12,6 +12,7 @@ use Rattle.placing.specs.Lowered.{Lowered}
 use Rattle.placing.proofs.Hits.{lower_some}
 use Rattle.placing.proofs.Lowering.{lowers_none, lowers_hit, lowers_miss, lowers_all}
 use Rattle.placing.proofs.lower.lower_keyed.Goals as goal
+use Rattle.placing.proofs.lower.lower_keyed.Goals.{else-keys-i, then-keys-i}
 
 pub loop-i-init : goal.loop-i-init
 loop-i-init c =
@@ -34,14 +35,17 @@ pub loop-i-preserved : goal.loop-i-preserved
 loop-i-preserved c =
     (
       search rules,
-      ⊎_elim
-          (λ w. rw (w.4, w.5)
+      elim c.if-keys-i.branch [
+      | then-keys-i w ↦
+          rw (w.4, w.5)
           (lowers_hit (is_key c.args.keys.now c.args.key) (nth c.args.first) c.loop-i.i _ _ _ _ _
           _
-          (eq_true _ _ w.0.taken) c.loop-i.invariant.1 w.3.ensures))
-          (λ w. rw (w.1, w.2)
+          (eq_true _ _ w.if-keys-i.true) c.loop-i.invariant.1 w.3.ensures)
+      | else-keys-i w ↦
+          rw (w.1, w.2)
           (lowers_miss (is_key c.args.keys.now c.args.key) (nth c.args.first) c.loop-i.i _ _ _ _
-          (eq_false _ _ w.0.left) c.loop-i.invariant.1)) c.if-keys-i.branch,
+          (eq_false _ _ w.if-keys-i.false) c.loop-i.invariant.1)
+    ],
     )
 
 pub returns : goal.returns

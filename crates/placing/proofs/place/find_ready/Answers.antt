@@ -5,23 +5,28 @@ use mathlib.Core.Logic.{⊎_elim}
 use Prim.Native.Nat.{◌-◌, ◌≤◌}
 use Rattle.placing.proofs.Found.{Found, found_starts, found_on, found-not, found-ends}
 use Rattle.placing.proofs.place.find_ready.Goals as goal
+use Rattle.placing.proofs.place.find_ready.Goals.{else-waiting-c-eq0, then-waiting-c-eq0}
 
 pub loop-c-init : goal.loop-c-init
 loop-c-init c =
-    (search rules, found_starts c.args.waiting.now c.args.ready.now c.requires.1.0 c.requires.1.1)
+    (search rules, found_starts c.args.waiting.now c.args.ready.now c.requires.words
+    c.requires.ready_value)
 
 pub loop-c-preserved : goal.loop-c-preserved
 loop-c-preserved c =
     (
       search rules,
-      ⊎_elim
-          (λ w. rw (w.3, w.2.ensures)
+      elim c.if-waiting-c-eq0.branch [
+      | then-waiting-c-eq0 w ↦
+          rw (w.3, w.2.ensures)
           (found_on c.args.waiting.now c.loop-c.ready c.loop-c.c
-          (omega (arith, c.requires.count_bound, c.loop-c-test.true)) w.0.taken
-          c.loop-c.invariant.1))
-          (λ w. rw w.1
-          (found-not c.args.waiting.now c.loop-c.ready c.loop-c.c w.0.left c.loop-c.invariant.1))
-          c.if-waiting-c-eq0.branch,
+          (omega (arith, c.requires.count_bound, c.loop-c-test.true)) w.if-waiting-c-eq0.true
+          c.loop-c.invariant.1)
+      | else-waiting-c-eq0 w ↦
+          rw w.1
+          (found-not c.args.waiting.now c.loop-c.ready c.loop-c.c w.if-waiting-c-eq0.false
+          c.loop-c.invariant.1)
+    ],
     )
 
 pub returns : goal.returns

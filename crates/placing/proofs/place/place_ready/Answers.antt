@@ -46,8 +46,8 @@ overflow_cast-last c =
 
 pub release-requires : goal.release-requires
 release-requires c =
-    let h : lowest.result < call_count t = omega (arith, c.requires.count_value,
-    c.if-count-call.false) in
+    let h : c.lowest-call.result < call_count c.args.table.now = omega
+    (arith, c.requires.count_value, c.if-count-call.false) in
     let few = few-calls c.args.table.now c.requires.sound in
     let e = lowest-next (shape_of c.args.table.now) c.requires.sound.wired
     (among (take c.loop-k.k (placed_of c.args.table.now))) c.loop-k.waiting c.loop-k.ready
@@ -72,8 +72,8 @@ release-requires c =
 
 pub loop-k-preserved : goal.loop-k-preserved
 loop-k-preserved c =
-    let h : lowest.result < call_count t = omega (arith, c.requires.count_value,
-    c.if-count-call.false) in
+    let h : c.lowest-call.result < call_count c.args.table.now = omega
+    (arith, c.requires.count_value, c.if-count-call.false) in
     let few = few-calls c.args.table.now c.requires.sound in
     let l = take c.loop-k.k (placed_of c.args.table.now) in
     let e = lowest-next (shape_of c.args.table.now) c.requires.sound.wired (among l)
@@ -83,7 +83,7 @@ loop-k-preserved c =
     c.loop-k.last c.loop-k.invariant.1 c.lowest-call.result e h _ _
     (rw c.take_out.ensures at c.release.ensures)
     (omega (arith, c.loop-k.invariant.0, c.requires.count_value, c.loop-k-test.true)) in
-    let n : length (l ++ (lowest.result ∷ [])) ≡ loop.k + 1 = length-append l
+    let n : length (l ++ (c.lowest-call.result ∷ [])) ≡ c.loop-k.k + 1 = length-append l
     (c.lowest-call.result ∷ []) ∙ omega (arith, c.loop-k.invariant.0) in
     let front = stage_front c.args.table.now (l ++ (c.lowest-call.result ∷ [])) _ _
     c.lowest-call.result (c.loop-k.k + 1) next n in
@@ -91,8 +91,8 @@ loop-k-preserved c =
 
 pub returns : goal.returns
 returns c =
-    let none : call_count t - length (take loop.k (placed_of t)) ≡ 0 = omega
-    (arith, c.loop-k.invariant.0, c.requires.count_value, c.loop-k-test.false) in
+    let none : call_count c.args.table.now - length (take c.loop-k.k (placed_of c.args.table.now))
+    ≡ 0 = omega (arith, c.loop-k.invariant.0, c.requires.count_value, c.loop-k-test.false) in
     let (n, rest) = stage_stands c.args.table.now (take c.loop-k.k (placed_of c.args.table.now))
     c.loop-k.waiting c.loop-k.ready c.loop-k.last c.loop-k.invariant.1
     (rw none (sort-none (call_count c.args.table.now) (precedes (shape_of c.args.table.now))

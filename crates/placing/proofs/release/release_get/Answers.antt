@@ -10,7 +10,7 @@ use Rattle.placing.proofs.release.release_get.Goals as goal
 
 pub bounds-mask-output : goal.bounds-mask-output
 bounds-mask-output c =
-    omega (arith, c.requires.1.0, c.requires.0.counted.outputs-most)
+    omega (arith, c.requires.output_bound, c.requires.sound.counted.outputs-most)
 
 pub lower_row-requires : goal.lower_row-requires
 lower_row-requires c =

@@ -9,7 +9,7 @@ use Rattle.placing.proofs.release.release_set.Goals as goal
 
 pub bounds-mask-input : goal.bounds-mask-input
 bounds-mask-input c =
-    omega (arith, c.requires.1.0, c.requires.0.counted.inputs-most)
+    omega (arith, c.requires.input_bound, c.requires.sound.counted.inputs-most)
 
 pub lower_feeds-requires : goal.lower_feeds-requires
 lower_feeds-requires c =

@@ -11,7 +11,7 @@ use Rattle.placing.proofs.release.release_step.Goals as goal
 
 pub bounds-own-unit : goal.bounds-own-unit
 bounds-own-unit c =
-    omega (arith, c.requires.1.0, c.requires.0.counted.units-most)
+    omega (arith, c.requires.unit_bound, c.requires.sound.counted.units-most)
 
 pub lower_row-requires : goal.lower_row-requires
 lower_row-requires c =

@@ -6,11 +6,11 @@ use Rattle.placing.proofs.thread.write_back.Goals as goal
 
 pub loop-n-init : goal.loop-n-init
 loop-n-init c =
-    backing_starts c.args.bytes.now c.args.count c.args.last c.args.out.now c.requires.1
+    backing_starts c.args.bytes.now c.args.count c.args.last c.args.out.now c.requires.by_index
 
 pub bounds-out-n : goal.bounds-out-n
 bounds-out-n c =
-    omega (arith, c.loop-n.invariant.long, c.loop-n.invariant.few, c.requires.0,
+    omega (arith, c.loop-n.invariant.long, c.loop-n.invariant.few, c.requires.count_in_bounds,
     c.loop-n-test.true)
 
 pub overflow_cast-c : goal.overflow_cast-c

@@ -9,16 +9,17 @@ use Rattle.placing.specs.Less.{is_key, called, Less}
 use Rattle.placing.proofs.Hits.{less_none, less-all, raise_room, raise_hit, less_miss}
 use mathlib.Core.Logic.{⊎_elim}
 use Rattle.placing.proofs.waiting.raise_called.Goals as goal
+use Rattle.placing.proofs.waiting.raise_called.Goals.{else-keys-i, then-keys-i}
 
 pub loop-i-init : goal.loop-i-init
 loop-i-init c = (search rules, less_none _ _ _)
 
 pub overflow_cast-waiting : goal.overflow_cast-waiting
 overflow_cast-waiting c =
-    record { fits = omega (arith, c.requires.1.1.0 c.loop-i.i c.loop-i-test.true) }
+    record { fits = omega (arith, c.requires.by_index c.loop-i.i c.loop-i-test.true) }
 
 pub bounds-waiting-calls : goal.bounds-waiting-calls
-bounds-waiting-calls c = c.requires.1.1.0 c.loop-i.i c.loop-i-test.true
+bounds-waiting-calls c = c.requires.by_index c.loop-i.i c.loop-i-test.true
 
 pub overflow_add-waiting : goal.overflow_add-waiting
 overflow_add-waiting c =
@@ -32,23 +33,25 @@ overflow_add-waiting c =
     }
 
 pub bounds-waiting-calls-then-keys-i : goal.bounds-waiting-calls-then-keys-i
-bounds-waiting-calls-then-keys-i c = c.requires.1.1.0 c.loop-i.i c.loop-i-test.true
+bounds-waiting-calls-then-keys-i c = c.requires.by_index c.loop-i.i c.loop-i-test.true
 
 pub loop-i-preserved : goal.loop-i-preserved
 loop-i-preserved c =
     (
       search rules,
-      ⊎_elim
-          (λ w. rw w.3
+      elim c.if-keys-i.branch [
+      | then-keys-i w ↦
+          rw w.3
           (raise_hit (is_key c.args.keys.now c.args.key) (called c.args.calls.now) c.loop-i.i
           c.loop-i.waiting
-          c.args.waiting.now (eq_true _ _ w.0.taken)
-          (omega (arith, c.requires.by_index c.loop-i.i c.loop-i-test.true))
-          c.loop-i.invariant.1))
-          (λ w. rw w.1
+          c.args.waiting.now (eq_true _ _ w.if-keys-i.true)
+          (omega (arith, c.requires.by_index c.loop-i.i c.loop-i-test.true)) c.loop-i.invariant.1)
+      | else-keys-i w ↦
+          rw w.1
           (less_miss (is_key c.args.keys.now c.args.key) (called c.args.calls.now) c.loop-i.i
           c.loop-i.waiting
-          c.args.waiting.now (eq_false _ _ w.0.left) c.loop-i.invariant.1)) c.if-keys-i.branch,
+          c.args.waiting.now (eq_false _ _ w.if-keys-i.false) c.loop-i.invariant.1)
+    ],
     )
 
 pub returns : goal.returns

@@ -12,14 +12,14 @@ loop-k-init c = (search rules, less_none _ _ _)
 
 pub overflow_cast-output : goal.overflow_cast-output
 overflow_cast-output c =
-    record { fits = omega (arith, c.requires.1.1.0 c.loop-k.k c.loop-k-test.true) }
+    record { fits = omega (arith, c.requires.by_index c.loop-k.k c.loop-k-test.true) }
 
 pub overflow_add-waiting : goal.overflow_add-waiting
 overflow_add-waiting c =
-    record { fits = omega (arith, c.requires.1.1.0 c.loop-k.k c.loop-k-test.true) }
+    record { fits = omega (arith, c.requires.by_index c.loop-k.k c.loop-k-test.true) }
 
 pub bounds-waiting-first : goal.bounds-waiting-first
-bounds-waiting-first c = c.requires.1.1.0 c.loop-k.k c.loop-k-test.true
+bounds-waiting-first c = c.requires.by_index c.loop-k.k c.loop-k-test.true
 
 pub overflow_add-waiting-in-loop-k : goal.overflow_add-waiting-in-loop-k
 overflow_add-waiting-in-loop-k c =
@@ -33,7 +33,7 @@ overflow_add-waiting-in-loop-k c =
     }
 
 pub bounds-waiting-first-in-loop-k : goal.bounds-waiting-first-in-loop-k
-bounds-waiting-first-in-loop-k c = c.requires.1.1.0 c.loop-k.k c.loop-k-test.true
+bounds-waiting-first-in-loop-k c = c.requires.by_index c.loop-k.k c.loop-k-test.true
 
 pub loop-k-preserved : goal.loop-k-preserved
 loop-k-preserved c =

@@ -9,6 +9,7 @@ use Rattle.placing.specs.Less.{is_key, Less}
 use Rattle.placing.proofs.Hits.{less_none, less-all, raise_room, raise_hit, less_miss}
 use mathlib.Core.Logic.{⊎_elim}
 use Rattle.placing.proofs.waiting.raise_keyed.Goals as goal
+use Rattle.placing.proofs.waiting.raise_keyed.Goals.{else-keys-i, then-keys-i}
 
 pub loop-i-init : goal.loop-i-init
 loop-i-init c = (search rules, less_none _ _ _)
@@ -30,15 +31,18 @@ pub loop-i-preserved : goal.loop-i-preserved
 loop-i-preserved c =
     (
       search rules,
-      ⊎_elim
-          (λ w. rw w.2
+      elim c.if-keys-i.branch [
+      | then-keys-i w ↦
+          rw w.2
           (raise_hit (is_key c.args.keys.now c.args.key) (nth c.args.first) c.loop-i.i
           c.loop-i.waiting
-          c.args.waiting.now (eq_true _ _ w.0.taken) (search rules) c.loop-i.invariant.1))
-          (λ w. rw w.1
+          c.args.waiting.now (eq_true _ _ w.if-keys-i.true) (search rules) c.loop-i.invariant.1)
+      | else-keys-i w ↦
+          rw w.1
           (less_miss (is_key c.args.keys.now c.args.key) (nth c.args.first) c.loop-i.i
           c.loop-i.waiting
-          c.args.waiting.now (eq_false _ _ w.0.left) c.loop-i.invariant.1)) c.if-keys-i.branch,
+          c.args.waiting.now (eq_false _ _ w.if-keys-i.false) c.loop-i.invariant.1)
+    ],
     )
 
 pub returns : goal.returns

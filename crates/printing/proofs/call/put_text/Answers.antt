@@ -7,10 +7,12 @@ use Rattle.printing.proofs.Declares.{nothing_put, same-put, same-room}
 use Rattle.printing.proofs.call.put_text.Goals as goal
 
 pub returns-then-line-ge3 : goal.returns-then-line-ge3
-returns-then-line-ge3 c = nothing_put _ _ _ _ _ c.if-line-ge3.true c.requires.1
+returns-then-line-ge3 c =
+    nothing_put _ _ _ _ _ c.if-line-ge3.true c.requires.line_in_bounds
 
 pub field-unit-requires : goal.field-unit-requires
-field-unit-requires c = (c.requires.0 c.if-line-ge3.false, omega arith)
+field-unit-requires c =
+    (c.requires.text_len_bound c.if-line-ge3.false, omega arith)
 
 pub put_entry-requires : goal.put_entry-requires
 put_entry-requires c =
@@ -26,7 +28,8 @@ returns-then-line-eq0 c =
     (text_step c.args.text.now c.args.k c.args.line _ [] c.field-unit.ensures c.if-line-eq0.true)
 
 pub field-port-requires : goal.field-port-requires
-field-port-requires c = (c.requires.0 c.if-line-ge3.false, omega arith)
+field-port-requires c =
+    (c.requires.text_len_bound c.if-line-ge3.false, omega arith)
 
 pub put_entry-requires-then-line-eq1 : goal.put_entry-requires-then-line-eq1
 put_entry-requires-then-line-eq1 c =

@@ -8,7 +8,7 @@ use Rattle.printing.proofs.Listing.{writing-room, writing_ends, writing_long}
 use Rattle.printing.proofs.entries.put_entries.Goals as goal
 
 pub loop-i-init : goal.loop-i-init
-loop-i-init c = writing-starts _ _ _ _ c.requires.1
+loop-i-init c = writing-starts _ _ _ _ c.requires.calls_in_bounds
 
 pub overflow_cast-calls : goal.overflow_cast-calls
 overflow_cast-calls c =

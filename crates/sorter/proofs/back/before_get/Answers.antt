@@ -36,7 +36,7 @@ returns-then-step_left c =
 
 pub bounds-gets-output : goal.bounds-gets-output
 bounds-gets-output c =
-    omega (arith, c.requires.1.0, c.requires.0.counted.outputs-most)
+    omega (arith, c.requires.output_bound, c.requires.sound.counted.outputs-most)
 
 pub returns : goal.returns
 returns c =

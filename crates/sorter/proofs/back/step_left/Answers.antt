@@ -8,7 +8,7 @@ use Rattle.sorter.proofs.back.step_left.Goals as goal
 
 pub bounds-steps-unit : goal.bounds-steps-unit
 bounds-steps-unit c =
-    omega (arith, c.requires.1.0, c.requires.0.counted.units-most)
+    omega (arith, c.requires.unit_bound, c.requires.sound.counted.units-most)
 
 pub overflow_cast-result : goal.overflow_cast-result
 overflow_cast-result c =

@@ -14,7 +14,7 @@ use Rattle.sorter.proofs.order.show_cycle.Goals as goal
 
 pub left_over-first-requires : goal.left_over-first-requires
 left_over-first-requires c =
-    (c.requires.0, (c.requires.1.0, (c.requires.1.1.1.1.0, search rules)))
+    (c.requires.sound, (c.requires.count_value, (c.requires.last_value, search rules)))
 
 pub walk_back-met-requires : goal.walk_back-met-requires
 walk_back-met-requires c =

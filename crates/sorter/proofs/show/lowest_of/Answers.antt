@@ -5,6 +5,7 @@ use mathlib.Core.Logic.{⊎_elim}
 use lib.ListN.{length}
 use Rattle.sorter.proofs.Turning.{Low, low_starts, low_lower, low-stays, low-ends}
 use Rattle.sorter.proofs.show.lowest_of.Goals as goal
+use Rattle.sorter.proofs.show.lowest_of.Goals.{else-bytes-i, then-bytes-i}
 
 pub loop-i-init : goal.loop-i-init
 loop-i-init c = (search rules, low_starts c.args.bytes.now c.args.count)
@@ -13,14 +14,17 @@ pub loop-i-preserved : goal.loop-i-preserved
 loop-i-preserved c =
     (
       search rules,
-      ⊎_elim
-          (λ w. rw w.2
+      elim c.if-bytes-i.branch [
+      | then-bytes-i w ↦
+          rw w.2
           (low_lower c.args.bytes.now c.args.count c.loop-i.i c.loop-i.low c.loop-i-test.true
-          w.0.taken
-          c.loop-i.invariant.1))
-          (λ w. rw w.1
-          (low-stays c.args.bytes.now c.args.count c.loop-i.i c.loop-i.low w.0.left
-          c.loop-i.invariant.1)) c.if-bytes-i.branch,
+          w.if-bytes-i.true
+          c.loop-i.invariant.1)
+      | else-bytes-i w ↦
+          rw w.1
+          (low-stays c.args.bytes.now c.args.count c.loop-i.i c.loop-i.low w.if-bytes-i.false
+          c.loop-i.invariant.1)
+    ],
     )
 
 pub returns : goal.returns

@@ -9,7 +9,7 @@ use Rattle.sorter.proofs.show.write_turned.Goals as goal
 
 pub loop-to-init : goal.loop-to-init
 loop-to-init c =
-    turning_starts c.args.bytes.now c.args.first c.args.out.now c.requires.0
+    turning_starts c.args.bytes.now c.args.first c.args.out.now c.requires.first_in_bounds
 
 pub bounds-bytes-from : goal.bounds-bytes-from
 bounds-bytes-from c =
@@ -20,7 +20,8 @@ bounds-bytes-from c =
     c.loop-to.invariant).0
 
 pub bounds-out-to : goal.bounds-out-to
-bounds-out-to c = omega (arith, c.loop-to.invariant.front.long, c.requires.1)
+bounds-out-to c =
+    omega (arith, c.loop-to.invariant.front.long, c.requires.bytes_in_bounds)
 
 pub overflow_add-from : goal.overflow_add-from
 overflow_add-from c =
@@ -45,5 +46,5 @@ shape_of-out c = c.loop-to.invariant.front.long
 pub returns : goal.returns
 returns c =
     turning_ends c.args.bytes.now c.args.first c.args.out.now c.loop-to.out c.loop-to.from
-    c.loop-to.to c.requires.0
+    c.loop-to.to c.requires.first_in_bounds
     c.loop-to-test.false c.loop-to.invariant

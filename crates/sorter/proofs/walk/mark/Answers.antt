@@ -9,24 +9,25 @@ use Rattle.sorter.proofs.walk.mark.Goals as goal
 
 pub loop-n-init : goal.loop-n-init
 loop-n-init c =
-    marking_starts c.args.bytes.now c.args.count c.args.last c.args.marks.now c.requires.0
-    c.requires.1.0
+    marking_starts c.args.bytes.now c.args.count c.args.last c.args.marks.now c.requires.words
+    c.requires.marks_value
 
 pub overflow_cast-c : goal.overflow_cast-c
 overflow_cast-c c =
-    let small = c.requires.1.1 c.loop-n.c (marking_call _ _ _ _ _ _ c.loop-n.invariant
+    let small = c.requires.by_index c.loop-n.c (marking_call _ _ _ _ _ _ c.loop-n.invariant
     c.loop-n-test.true) in
     record { fits = omega (arith, small) }
 
 pub overflow_cast-c-in-loop-n : goal.overflow_cast-c-in-loop-n
 overflow_cast-c-in-loop-n c =
-    let small = c.requires.1.1 c.loop-n.c (marking_call _ _ _ _ _ _ c.loop-n.invariant
+    let small = c.requires.by_index c.loop-n.c (marking_call _ _ _ _ _ _ c.loop-n.invariant
     c.loop-n-test.true) in
     record { fits = omega (arith, small) }
 
 pub bounds-bytes-c : goal.bounds-bytes-c
 bounds-bytes-c c =
-    c.requires.1.1 c.loop-n.c (marking_call _ _ _ _ _ _ c.loop-n.invariant c.loop-n-test.true)
+    c.requires.by_index c.loop-n.c (marking_call _ _ _ _ _ _ c.loop-n.invariant
+    c.loop-n-test.true)
 
 pub loop-n-preserved : goal.loop-n-preserved
 loop-n-preserved c =

@@ -39,8 +39,9 @@ bounds-path-at c =
 
 pub lowest_before-call-requires : goal.lowest_before-call-requires
 lowest_before-call-requires c =
-    (c.requires.0, (c.loop-seen.invariant.here, (c.requires.1.0,
-    (c.loop-seen.invariant.waits, (c.requires.1.1.1.0, c.requires.1.1.1.1.0)))))
+    (c.requires.sound, (c.loop-seen.invariant.here,
+    (c.requires.table_len_bound, (c.loop-seen.invariant.waits,
+    (c.requires.low_steps, c.requires.low_gets)))))
 
 pub loop-seen-smaller : goal.loop-seen-smaller
 loop-seen-smaller c =

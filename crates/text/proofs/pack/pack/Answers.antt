@@ -9,77 +9,77 @@ pub overflow_add-inputs-2 : goal.overflow_add-inputs-2
 overflow_add-inputs-2 c =
     omega (
       arith,
-      c.requires.0.long,
-      c.requires.0.units-most,
-      c.requires.0.outputs-most,
-      c.requires.0.inputs-most,
-      c.requires.0.feeds-most,
+      c.requires.slotted.long,
+      c.requires.slotted.units-most,
+      c.requires.slotted.outputs-most,
+      c.requires.slotted.inputs-most,
+      c.requires.slotted.feeds-most,
     )
 
 pub slice_bounds-put-end-3 : goal.slice_bounds-put-end-3
 slice_bounds-put-end-3 c =
     omega (
       arith,
-      c.requires.0.long,
-      c.requires.0.units-most,
-      c.requires.0.outputs-most,
-      c.requires.0.inputs-most,
-      c.requires.0.feeds-most,
+      c.requires.slotted.long,
+      c.requires.slotted.units-most,
+      c.requires.slotted.outputs-most,
+      c.requires.slotted.inputs-most,
+      c.requires.slotted.feeds-most,
     )
 
 pub overflow_add-inputs-3 : goal.overflow_add-inputs-3
 overflow_add-inputs-3 c =
     omega (
       arith,
-      c.requires.0.long,
-      c.requires.0.units-most,
-      c.requires.0.outputs-most,
-      c.requires.0.inputs-most,
-      c.requires.0.feeds-most,
+      c.requires.slotted.long,
+      c.requires.slotted.units-most,
+      c.requires.slotted.outputs-most,
+      c.requires.slotted.inputs-most,
+      c.requires.slotted.feeds-most,
     )
 
 pub slice_bounds-put-end-4 : goal.slice_bounds-put-end-4
 slice_bounds-put-end-4 c =
     omega (
       arith,
-      c.requires.0.long,
-      c.requires.0.units-most,
-      c.requires.0.outputs-most,
-      c.requires.0.inputs-most,
-      c.requires.0.feeds-most,
+      c.requires.slotted.long,
+      c.requires.slotted.units-most,
+      c.requires.slotted.outputs-most,
+      c.requires.slotted.inputs-most,
+      c.requires.slotted.feeds-most,
     )
 
 pub overflow_mul-feeds : goal.overflow_mul-feeds
 overflow_mul-feeds c =
     omega (
       arith,
-      c.requires.0.long,
-      c.requires.0.units-most,
-      c.requires.0.outputs-most,
-      c.requires.0.inputs-most,
-      c.requires.0.feeds-most,
+      c.requires.slotted.long,
+      c.requires.slotted.units-most,
+      c.requires.slotted.outputs-most,
+      c.requires.slotted.inputs-most,
+      c.requires.slotted.feeds-most,
     )
 
 pub overflow_add-feeds : goal.overflow_add-feeds
 overflow_add-feeds c =
     omega (
       arith,
-      c.requires.0.long,
-      c.requires.0.units-most,
-      c.requires.0.outputs-most,
-      c.requires.0.inputs-most,
-      c.requires.0.feeds-most,
+      c.requires.slotted.long,
+      c.requires.slotted.units-most,
+      c.requires.slotted.outputs-most,
+      c.requires.slotted.inputs-most,
+      c.requires.slotted.feeds-most,
     )
 
 pub slice_bounds-put-end-5 : goal.slice_bounds-put-end-5
 slice_bounds-put-end-5 c =
     omega (
       arith,
-      c.requires.0.long,
-      c.requires.0.units-most,
-      c.requires.0.outputs-most,
-      c.requires.0.inputs-most,
-      c.requires.0.feeds-most,
+      c.requires.slotted.long,
+      c.requires.slotted.units-most,
+      c.requires.slotted.outputs-most,
+      c.requires.slotted.inputs-most,
+      c.requires.slotted.feeds-most,
     )
 
 pub shape_of-out : goal.shape_of-out

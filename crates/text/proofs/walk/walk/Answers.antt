@@ -8,11 +8,12 @@ use Rattle.text.proofs.walk.walk.Goals as goal
 
 pub loop-at-init : goal.loop-at-init
 loop-at-init c =
-    going_starts _ _ _ _ c.requires.1.0.0 c.requires.1.0.1 c.requires.1.1
+    going_starts _ _ _ _ c.requires.places_len.0 c.requires.places_len.1 c.requires.a_in_bounds
 
 pub line-taken-requires : goal.line-taken-requires
 line-taken-requires c =
-    let told = told-fields _ _ _ c.requires.0 c.loop-at-test.true c.fields_at-fields.ensures in
+    let told = told-fields _ _ _ c.requires.ended c.loop-at-test.true c.fields_at-fields.ensures
+    in
     (c.loop-at.invariant.fit, told)
 
 pub returns-then-bad-ne0 : goal.returns-then-bad-ne0
