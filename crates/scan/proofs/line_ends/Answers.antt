@@ -32,13 +32,13 @@ loop-i-preserved c =
       | then-text-i-eq10 w ↦
           (
       omega arith,
-      (omega (arith, w.1), w.1 ∙ counts _ _ _ c.loop-i-test.true c.loop-i.invariant.1.1
+      (omega (arith, w.count-is), w.count-is ∙ counts _ _ _ c.loop-i-test.true c.loop-i.invariant.1.1
       w.if-text-i-eq10.true),
     )
       | else-text-i-eq10 w ↦
           (
       omega arith,
-      (omega (arith, w.1), w.1 ∙ passes _ _ _ c.loop-i-test.true c.loop-i.invariant.1.1
+      (omega (arith, w.count-is), w.count-is ∙ passes _ _ _ c.loop-i-test.true c.loop-i.invariant.1.1
       w.if-text-i-eq10.false),
     )
     ]

@@ -81,14 +81,14 @@ loop-left-preserved c =
       c.loop-left.invariant.1,
       elim c.if-left-eq1.branch [
       | then-left-eq1 w ↦
-          rw (w.7, w.8)
+          rw (w.waiting-is, w.ready-is)
           (feeds_on c.args.pairs.now c.args.count c.args.input c.args.first c.loop-left.from
-          w.1.result
-          w.2.result w.1.ensures w.2.ensures c.requires.pairs_len _ _ _ _ _ _
+          w.least-a.result
+          w.least-z.result w.least-a.ensures w.least-z.ensures c.requires.pairs_len _ _ _ _ _ _
           c.loop-left.invariant.2
-          w.6.ensures)
+          w.lower_fed.ensures)
       | else-left-eq1 w ↦
-          rw (w.1, w.2)
+          rw (w.waiting-is, w.ready-is)
           (blocks_miss q at c.args.count c.loop-left.from 32 c.loop-left.left _ _ _ _
           c.loop-left.invariant.1 w.if-left-eq1.false
           c.loop-left.invariant.2)

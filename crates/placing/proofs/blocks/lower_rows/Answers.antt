@@ -87,13 +87,13 @@ loop-left-preserved c =
       (λ i h. omega arith) c.loop-left.invariant.1,
       elim c.if-left-eq1.branch [
       | then-left-eq1 w ↦
-          rw (w.8, w.9)
+          rw (w.waiting-is, w.ready-is)
           (rows_on c.args.keys.now c.args.key c.args.others.now c.args.other c.args.first
           c.loop-left.from
-          w.1.result w.2.result w.1.ensures w.2.ensures c.requires.others_len _ _ _ _ _ _
-          c.loop-left.invariant.2 w.7.ensures)
+          w.least-a.result w.least-z.result w.least-a.ensures w.least-z.ensures c.requires.others_len _ _ _ _ _ _
+          c.loop-left.invariant.2 w.lower_both.ensures)
       | else-left-eq1 w ↦
-          rw (w.1, w.2)
+          rw (w.waiting-is, w.ready-is)
           (blocks_miss q (nth c.args.first) (length c.args.keys.now) c.loop-left.from 24
           c.loop-left.left _ _ _ _
           c.loop-left.invariant.1 w.if-left-eq1.false c.loop-left.invariant.2)

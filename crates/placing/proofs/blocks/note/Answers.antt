@@ -44,12 +44,12 @@ loop-i-preserved c =
       search rules,
       elim c.if-left-eq0.branch [
       | then-left-eq0 w ↦
-          rw (w.1, w.2)
+          rw (w.bit-is, w.left-is)
           (stands-next c.args.low n c.requires.low_bound c.loop-i.i c.loop-i.bit c.loop-i.left
           c.requires.keys_len_bound c.loop-i-test.true c.loop-i.invariant.1
           w.if-left-eq0.true)
       | else-left-eq0 w ↦
-          rw (w.1, w.2)
+          rw (w.bit-is, w.left-is)
           (stands_on c.args.low n c.requires.low_bound c.loop-i.i c.loop-i.bit c.loop-i.left
           c.requires.keys_len_bound c.loop-i-test.true c.loop-i.invariant.1
           w.if-left-eq0.false)

@@ -3,7 +3,6 @@ use borrow.Author.Rules.{rules}
 use Rattle.calls.specs.Hits.{nth, hits}
 use native.Mathlib.Omega.{arith}
 use mathlib.Core.Path.{◌∙◌}
-use mathlib.Core.Logic.{⊎_elim}
 use Prim.Native.Nat.{◌-◌, ◌≤◌}
 use lib.ListN.{length}
 use Rattle.placing.specs.Less.{are_keys}
@@ -11,6 +10,7 @@ use Rattle.placing.specs.Lowered.{Lowered}
 use Rattle.placing.proofs.Hits.{both_keys, first-other, second-other, lower_some}
 use Rattle.placing.proofs.Lowering.{lowers_none, lowers_hit, lowers_miss, lowers_all}
 use Rattle.placing.proofs.lower.lower_both.Goals as goal
+use Rattle.placing.proofs.lower.lower_both.Goals.{then-keys-i+then-others-i, then-keys-i+else-others-i, else-keys-i}
 
 pub loop-i-init : goal.loop-i-init
 loop-i-init c =
@@ -36,23 +36,23 @@ loop-i-preserved c =
     let q = are_keys c.args.keys.now c.args.key c.args.others.now c.args.other in
     (
       search rules,
-      ⊎_elim
-          (λ w. rw (w.6, w.7)
+      elim c.if-keys-i.branch [
+      | then-keys-i+then-others-i w ↦
+          rw (w.waiting-is, w.ready-is)
           (lowers_hit q (nth c.args.first) c.loop-i.i _ _ _ _ _ _
           (both_keys c.args.keys.now c.args.key c.args.others.now c.args.other c.loop-i.i
-          w.0.taken
-          w.2.taken) c.loop-i.invariant.1 w.5.ensures))
-          (⊎_elim
-          (λ w. rw (w.3, w.4)
+          w.if-keys-i.true w.if-others-i.true) c.loop-i.invariant.1 w.lower.ensures)
+      | then-keys-i+else-others-i w ↦
+          rw (w.waiting-is, w.ready-is)
           (lowers_miss q (nth c.args.first) c.loop-i.i _ _ _ _
           (second-other c.args.keys.now c.args.key c.args.others.now c.args.other c.loop-i.i
-          w.2.left)
-          c.loop-i.invariant.1))
-          (λ w. rw (w.1, w.2)
+          w.if-others-i.false) c.loop-i.invariant.1)
+      | else-keys-i w ↦
+          rw (w.waiting-is, w.ready-is)
           (lowers_miss q (nth c.args.first) c.loop-i.i _ _ _ _
           (first-other c.args.keys.now c.args.key c.args.others.now c.args.other c.loop-i.i
-          w.0.left)
-          c.loop-i.invariant.1))) c.if-keys-i.branch,
+          w.if-keys-i.false) c.loop-i.invariant.1)
+      ],
     )
 
 pub returns : goal.returns

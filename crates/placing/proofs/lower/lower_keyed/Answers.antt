@@ -37,12 +37,12 @@ loop-i-preserved c =
       search rules,
       elim c.if-keys-i.branch [
       | then-keys-i w ↦
-          rw (w.4, w.5)
+          rw (w.waiting-is, w.ready-is)
           (lowers_hit (is_key c.args.keys.now c.args.key) (nth c.args.first) c.loop-i.i _ _ _ _ _
           _
-          (eq_true _ _ w.if-keys-i.true) c.loop-i.invariant.1 w.3.ensures)
+          (eq_true _ _ w.if-keys-i.true) c.loop-i.invariant.1 w.lower.ensures)
       | else-keys-i w ↦
-          rw (w.1, w.2)
+          rw (w.waiting-is, w.ready-is)
           (lowers_miss (is_key c.args.keys.now c.args.key) (nth c.args.first) c.loop-i.i _ _ _ _
           (eq_false _ _ w.if-keys-i.false) c.loop-i.invariant.1)
     ],

@@ -18,12 +18,12 @@ loop-c-preserved c =
       search rules,
       elim c.if-waiting-c-eq0.branch [
       | then-waiting-c-eq0 w ↦
-          rw (w.3, w.2.ensures)
+          rw (w.ready-is, w.put.ensures)
           (found_on c.args.waiting.now c.loop-c.ready c.loop-c.c
           (omega (arith, c.requires.count_bound, c.loop-c-test.true)) w.if-waiting-c-eq0.true
           c.loop-c.invariant.1)
       | else-waiting-c-eq0 w ↦
-          rw w.1
+          rw w.ready-is
           (found-not c.args.waiting.now c.loop-c.ready c.loop-c.c w.if-waiting-c-eq0.false
           c.loop-c.invariant.1)
     ],

@@ -33,10 +33,13 @@ returns-then-calls-count c =
 
 pub place-placed-requires : goal.place-placed-requires
 place-placed-requires c =
-    (
-      passed-sound c.args.table.now (sym c.first_refusal-number.ensures ∙ c.if-number-ne0.false),
-      (c.call_count-count.ensures, (search rules, zeros 224)),
-    )
+    record {
+      sound =
+          passed-sound c.args.table.now (sym c.first_refusal-number.ensures ∙ c.if-number-ne0.false);
+      count_value = c.call_count-count.ensures;
+      waiting_len = search rules;
+      by_index = zeros 224;
+    }
 
 pub write_back-requires : goal.write_back-requires
 write_back-requires c =

@@ -29,8 +29,7 @@ returns-then-count-call c =
     c.loop-k.waiting c.loop-k.ready c.loop-k.last c.loop-k.invariant.1
     (sort-stop (call_count c.args.table.now) (precedes (shape_of c.args.table.now)) _ _
     (omega (arith, over))) in
-    let all = (sym c.loop-k.invariant.0 ∙ n, rest) in
-    record { count_value_2 = all.0; last_value = all.1.0; standing = all.1.1 }
+    record { count_value_2 = sym c.loop-k.invariant.0 ∙ n; last_value = rest.0; standing = rest.1 }
 
 pub bounds-waiting-call : goal.bounds-waiting-call
 bounds-waiting-call c =
@@ -97,5 +96,4 @@ returns c =
     c.loop-k.waiting c.loop-k.ready c.loop-k.last c.loop-k.invariant.1
     (rw none (sort-none (call_count c.args.table.now) (precedes (shape_of c.args.table.now))
     (among (take c.loop-k.k (placed_of c.args.table.now))))) in
-    let all = (sym c.loop-k.invariant.0 ∙ n, rest) in
-    record { count_value_2 = all.0; last_value = all.1.0; standing = all.1.1 }
+    record { count_value_2 = sym c.loop-k.invariant.0 ∙ n; last_value = rest.0; standing = rest.1 }

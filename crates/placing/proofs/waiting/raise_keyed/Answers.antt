@@ -33,12 +33,12 @@ loop-i-preserved c =
       search rules,
       elim c.if-keys-i.branch [
       | then-keys-i w ↦
-          rw w.2
+          rw w.waiting-is
           (raise_hit (is_key c.args.keys.now c.args.key) (nth c.args.first) c.loop-i.i
           c.loop-i.waiting
           c.args.waiting.now (eq_true _ _ w.if-keys-i.true) (search rules) c.loop-i.invariant.1)
       | else-keys-i w ↦
-          rw w.1
+          rw w.waiting-is
           (less_miss (is_key c.args.keys.now c.args.key) (nth c.args.first) c.loop-i.i
           c.loop-i.waiting
           c.args.waiting.now (eq_false _ _ w.if-keys-i.false) c.loop-i.invariant.1)
