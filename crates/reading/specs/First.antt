@@ -59,7 +59,10 @@ module _ (first : Row) (fs : List Row) (opened : word first 0 ≡ ascii "cosim")
   unfolding is_loose same
   loose-alike = fun_ext (λ f. rw (place-below, below (ascii "join") tt))
 
+  loose-step : place (is_loose fs) (first ∷ fs) ≡ suc (place (is_loose fs) fs)
+  unfolding place is_loose same
+  loose-step = rw opened (λ i. suc (place (is_loose fs) fs))
+
   -- nor is it an `in` line
   pub loose-below : place (is_loose (first ∷ fs)) (first ∷ fs) ≡ suc (place (is_loose fs) fs)
-  unfolding place is_loose same
-  loose-below = rw (loose-alike, opened)
+  loose-below = rw loose-alike loose-step

@@ -63,6 +63,5 @@ returns-in-5 c =
 
 pub returns-in_default : goal.returns-in_default
 returns-in_default c =
-    became_none _ _ _ _ _ c.in_default.rest.0.0.0.0.1 c.in_default.rest.0.0.0.1
-    c.in_default.rest.0.0.1
-    c.in_default.rest.0.1 c.in_default.rest.1
+    let not = c.in_default.in_default-own.rest in
+    became_none _ _ _ _ _ not.0.0.0.0.1 not.0.0.0.1 not.0.0.1 not.0.1 not.1

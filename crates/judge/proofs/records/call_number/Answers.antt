@@ -22,6 +22,6 @@ returns-in-2 c =
 
 pub returns-in_default : goal.returns-in_default
 returns-in_default c =
+    let not = c.in_default.in_default-own.rest in
     record_none _ _ _ _ _ c.unit_count-u.ensures.value c.output_count-y.ensures.value
-    c.input_count-x.ensures.value
-    c.in_default.rest.0.0.1 c.in_default.rest.0.1 c.in_default.rest.1
+    c.input_count-x.ensures.value not.0.0.1 not.0.1 not.1
