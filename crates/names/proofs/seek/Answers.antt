@@ -42,10 +42,10 @@ compare_key-side-requires c =
     let middle-one = middle _ _ _ _ _ c.requires.ranked _ _ _ _
     (c.loop-lo.lo + (c.loop-lo.hi - c.loop-lo.lo) / 2) c.loop-lo.invariant (omega arith)
     (omega arith) in
-    (
-      omega (arith, middle-one, c.requires.ranked.low),
-      c.requires.wordy,
-    )
+    record {
+      k_lt_names_size = omega (arith, middle-one, c.requires.ranked.low);
+      wordy = c.requires.wordy;
+    }
 
 pub returns-then-side-eq1 : goal.returns-then-side-eq1
 returns-then-side-eq1 c =

@@ -28,15 +28,18 @@ returns-then-kind-eq2 c =
 
 pub word-owner-requires : goal.word-owner-requires
 word-owner-requires c =
-    (c.requires.told, (omega arith, has_field _ _ _ _ _ _ c.requires.told 4 2 _ 1
-    c.shape-bad.ensures.number c.if-bad-ne0.false (omega arith)))
+    record {
+      told = c.requires.told;
+      i_bound = (omega arith, has_field _ _ _ _ _ _ c.requires.told 4 2 _ 1
+      c.shape-bad.ensures.number c.if-bad-ne0.false (omega arith));
+    }
 
 pub find-u-requires : goal.find-u-requires
 find-u-requires c =
-    (
-  c.requires.fit.units-ranked,
-  c.word-owner.ensures.wordy,
-)
+    record {
+      ranked = c.requires.fit.units-ranked;
+      wordy = c.word-owner.ensures.wordy;
+    }
 
 pub returns-then-units-u : goal.returns-then-units-u
 returns-then-units-u c =
@@ -48,8 +51,11 @@ returns-then-units-u c =
 
 pub word-name-requires : goal.word-name-requires
 word-name-requires c =
-    (c.requires.told, (omega arith, has_field _ _ _ _ _ _ c.requires.told 4 2 _ 2
-    c.shape-bad.ensures.number c.if-bad-ne0.false (omega arith)))
+    record {
+      told = c.requires.told;
+      i_bound = (omega arith, has_field _ _ _ _ _ _ c.requires.told 4 2 _ 2
+      c.shape-bad.ensures.number c.if-bad-ne0.false (omega arith));
+    }
 
 pub overflow_cast-u : goal.overflow_cast-u
 overflow_cast-u c =
@@ -61,10 +67,10 @@ overflow_cast-u c =
 
 pub seek-input-requires : goal.seek-input-requires
 seek-input-requires c =
-    (
-  c.requires.fit.inputs-ranked,
-  c.word-name.ensures.wordy,
-)
+    record {
+      ranked = c.requires.fit.inputs-ranked;
+      wordy = c.word-name.ensures.wordy;
+    }
 
 pub returns-then-input : goal.returns-then-input
 returns-then-input c =

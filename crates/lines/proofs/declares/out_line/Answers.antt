@@ -13,11 +13,18 @@ returns-then-bad-ne0 c =
 
 pub word-owner-requires : goal.word-owner-requires
 word-owner-requires c =
-    (c.requires.told, (omega arith, has_field _ _ _ _ _ _ c.requires.told 3 2 _ 1
-    c.shape-bad.ensures.number c.if-bad-ne0.false (omega arith)))
+    record {
+      told = c.requires.told;
+      i_bound = (omega arith, has_field _ _ _ _ _ _ c.requires.told 3 2 _ 1
+      c.shape-bad.ensures.number c.if-bad-ne0.false (omega arith));
+    }
 
 pub find-u-requires : goal.find-u-requires
-find-u-requires c = (c.requires.fit.units-ranked, c.word-owner.ensures.wordy)
+find-u-requires c =
+    record {
+      ranked = c.requires.fit.units-ranked;
+      wordy = c.word-owner.ensures.wordy;
+    }
 
 pub returns-then-units-u : goal.returns-then-units-u
 returns-then-units-u c =
@@ -28,8 +35,11 @@ returns-then-units-u c =
 
 pub word-name-requires : goal.word-name-requires
 word-name-requires c =
-    (c.requires.told, (omega arith, has_field _ _ _ _ _ _ c.requires.told 3 2 _ 2
-    c.shape-bad.ensures.number c.if-bad-ne0.false (omega arith)))
+    record {
+      told = c.requires.told;
+      i_bound = (omega arith, has_field _ _ _ _ _ _ c.requires.told 3 2 _ 2
+      c.shape-bad.ensures.number c.if-bad-ne0.false (omega arith));
+    }
 
 pub overflow_cast-u : goal.overflow_cast-u
 overflow_cast-u c =
@@ -41,10 +51,10 @@ overflow_cast-u c =
 
 pub seek-output-requires : goal.seek-output-requires
 seek-output-requires c =
-    (
-  c.requires.fit.outputs-ranked,
-  c.word-name.ensures.wordy,
-)
+    record {
+      ranked = c.requires.fit.outputs-ranked;
+      wordy = c.word-name.ensures.wordy;
+    }
 
 pub returns-then-output : goal.returns-then-output
 returns-then-output c =

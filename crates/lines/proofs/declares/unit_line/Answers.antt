@@ -12,11 +12,18 @@ returns-then-bad-ne0 c =
 
 pub word-name-requires : goal.word-name-requires
 word-name-requires c =
-    (c.requires.told, (omega arith, has_field _ _ _ _ _ _ c.requires.told 2 1 _ 1
-    c.shape-bad.ensures.number c.if-bad-ne0.false (omega arith)))
+    record {
+      told = c.requires.told;
+      i_bound = (omega arith, has_field _ _ _ _ _ _ c.requires.told 2 1 _ 1
+      c.shape-bad.ensures.number c.if-bad-ne0.false (omega arith));
+    }
 
 pub seek-unit-requires : goal.seek-unit-requires
-seek-unit-requires c = (c.requires.fit.units-ranked, c.word-name.ensures.wordy)
+seek-unit-requires c =
+    record {
+      ranked = c.requires.fit.units-ranked;
+      wordy = c.word-name.ensures.wordy;
+    }
 
 pub returns-then-unit : goal.returns-then-unit
 returns-then-unit c =

@@ -12,21 +12,17 @@ returns-then-bad-ne0 c =
 
 pub port-input-requires : goal.port-input-requires
 port-input-requires c =
-    (
-      c.requires.fit,
-      (
-        c.requires.told,
-        (
-          (
+    record {
+      fit = c.requires.fit;
+      told = c.requires.told;
+      i_bound = (
             omega arith,
             has_field _ _ _ _ _ _ c.requires.told 4 3 _ 2 c.shape-bad.ensures.number
             c.if-bad-ne0.false (omega
                 arith),
-          ),
-          c.requires.fit.inputs-ranked,
-        ),
-      ),
-    )
+          );
+      ranked = c.requires.fit.inputs-ranked;
+    }
 
 pub returns-then-input-ne0 : goal.returns-then-input-ne0
 returns-then-input-ne0 c =
@@ -45,15 +41,18 @@ overflow_cast-u c =
 
 pub word-name-requires : goal.word-name-requires
 word-name-requires c =
-    (c.requires.told, (omega arith, has_field _ _ _ _ _ _ c.requires.told 4 3 _ 3
-    c.shape-bad.ensures.number c.if-bad-ne0.false (omega arith)))
+    record {
+      told = c.requires.told;
+      i_bound = (omega arith, has_field _ _ _ _ _ _ c.requires.told 4 3 _ 3
+      c.shape-bad.ensures.number c.if-bad-ne0.false (omega arith));
+    }
 
 pub find-y-requires : goal.find-y-requires
 find-y-requires c =
-    (
-  c.requires.fit.outputs-ranked,
-  c.word-name.ensures.wordy,
-)
+    record {
+      ranked = c.requires.fit.outputs-ranked;
+      wordy = c.word-name.ensures.wordy;
+    }
 
 pub returns-then-outputs-y : goal.returns-then-outputs-y
 returns-then-outputs-y c =

@@ -12,21 +12,17 @@ returns-then-bad-ne0 c =
 
 pub port-from-requires : goal.port-from-requires
 port-from-requires c =
-    (
-      c.requires.fit,
-      (
-        c.requires.told,
-        (
-          (
+    record {
+      fit = c.requires.fit;
+      told = c.requires.told;
+      i_bound = (
             omega arith,
             has_field _ _ _ _ _ _ c.requires.told 5 4 _ 2 c.shape-bad.ensures.number
             c.if-bad-ne0.false (omega
                 arith),
-          ),
-          c.requires.fit.outputs-ranked,
-        ),
-      ),
-    )
+          );
+      ranked = c.requires.fit.outputs-ranked;
+    }
 
 pub returns-then-from-ne0 : goal.returns-then-from-ne0
 returns-then-from-ne0 c =
@@ -37,21 +33,17 @@ returns-then-from-ne0 c =
 
 pub port-to-requires : goal.port-to-requires
 port-to-requires c =
-    (
-      c.requires.fit,
-      (
-        c.requires.told,
-        (
-          (
+    record {
+      fit = c.requires.fit;
+      told = c.requires.told;
+      i_bound = (
             omega arith,
             has_field _ _ _ _ _ _ c.requires.told 5 4 _ 4 c.shape-bad.ensures.number
             c.if-bad-ne0.false (omega
                 arith),
-          ),
-          c.requires.fit.inputs-ranked,
-        ),
-      ),
-    )
+          );
+      ranked = c.requires.fit.inputs-ranked;
+    }
 
 pub returns-then-to-ne0 : goal.returns-then-to-ne0
 returns-then-to-ne0 c =

@@ -5,10 +5,17 @@ use Rattle.lines.proofs.ports.port.Goals as goal
 
 pub word-owner-requires : goal.word-owner-requires
 word-owner-requires c =
-    (c.requires.told, (omega (arith, c.requires.i_bound.0), omega (arith, c.requires.i_bound.1)))
+    record {
+      told = c.requires.told;
+      i_bound = (omega (arith, c.requires.i_bound.0), omega (arith, c.requires.i_bound.1));
+    }
 
 pub find-u-requires : goal.find-u-requires
-find-u-requires c = (c.requires.fit.units-ranked, c.word-owner.ensures.wordy)
+find-u-requires c =
+    record {
+      ranked = c.requires.fit.units-ranked;
+      wordy = c.word-owner.ensures.wordy;
+    }
 
 pub overflow_cast-result : goal.overflow_cast-result
 overflow_cast-result c = omega (arith, c.requires.i_bound.0)
@@ -26,7 +33,10 @@ overflow_add-i c = omega (arith, c.requires.i_bound.0)
 
 pub word-name-requires : goal.word-name-requires
 word-name-requires c =
-    (c.requires.told, (omega (arith, c.requires.i_bound.0), c.requires.i_bound.1))
+    record {
+      told = c.requires.told;
+      i_bound = (omega (arith, c.requires.i_bound.0), c.requires.i_bound.1);
+    }
 
 pub overflow_cast-u : goal.overflow_cast-u
 overflow_cast-u c =
@@ -37,7 +47,11 @@ overflow_cast-u c =
     )
 
 pub find-x-requires : goal.find-x-requires
-find-x-requires c = (c.requires.ranked, c.word-name.ensures.wordy)
+find-x-requires c =
+    record {
+      ranked = c.requires.ranked;
+      wordy = c.word-name.ensures.wordy;
+    }
 
 pub overflow_cast-result-then-count-x : goal.overflow_cast-result-then-count-x
 overflow_cast-result-then-count-x c = omega (arith, c.requires.i_bound.0)

@@ -16,11 +16,12 @@ overflow_cast-calls c =
 
 pub put_text-end-requires : goal.put_text-end-requires
 put_text-end-requires c =
-    (
-      λ h. found-small _ _ _ _ c.requires.indexed _ _ c.line_at-line.ensures h,
-      same-room _ _ (found_prints _ _ _ _ c.requires.indexed _ _ c.line_at-line.ensures _)
-          (writing-room c.loop-i.invariant c.loop-i-test.true c.requires.calls_in_bounds),
-    )
+    record {
+      text_len_bound = λ h. found-small _ _ _ _ c.requires.indexed _ _ c.line_at-line.ensures h;
+      line_in_bounds = same-room _ _ (found_prints _ _ _ _ c.requires.indexed _ _
+      c.line_at-line.ensures _)
+          (writing-room c.loop-i.invariant c.loop-i-test.true c.requires.calls_in_bounds);
+    }
 
 pub loop-i-preserved : goal.loop-i-preserved
 loop-i-preserved c =

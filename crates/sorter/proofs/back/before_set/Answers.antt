@@ -12,6 +12,7 @@ use Rattle.placing.specs.Placing.{placed_of}
 use Rattle.sorter.proofs.Before.{set-step}
 use Rattle.sorter.proofs.Closed.{source-left}
 use Rattle.sorter.proofs.back.before_set.Goals as goal
+use Rattle.sorter.proofs.back.before_set.Goals.{else-byte-eq0, then-byte-eq0}
 
 pub step_left-requires : goal.step_left-requires
 step_left-requires c =
@@ -44,8 +45,10 @@ returns c =
     ap₂ ◌+◌ c.unit_count.ensures.value y
     ∙ source-left c.args.table.now c.requires.sound c.requires.table_len_bound c.args.input
     c.requires.input_bound c.requires.t
-    (λ z. ⊎_elim
-    (λ w. subst (λ n. T (done n))
-    (w.2.ensures.0 ∙ ap (λ l. get_or l c.args.input 0) w.1.ensures)
-    (not-not (done w.2.result) (denies w.3.ensures w.4.left)))
-    (λ w. absurd (w.left (k ∙ z))) c.if-byte-eq0.came)
+    (λ z. elim c.if-byte-eq0.branch [
+      | then-byte-eq0 w ↦
+          subst (λ n. T (done n))
+          (w.byte-step.ensures.value ∙ ap (λ l. get_or l c.args.input 0) w.input_owners.ensures)
+          (not-not (done w.byte-step.result) (denies w.step_left.ensures w.if-step_left.false))
+      | else-byte-eq0 w ↦ absurd (w.if-byte-eq0.false (k ∙ z))
+    ])

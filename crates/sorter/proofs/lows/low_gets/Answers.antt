@@ -33,7 +33,7 @@ loop-k-init c =
 
 pub overflow_mul-input : goal.overflow_mul-input
 overflow_mul-input c =
-    record { fits = omega (arith, c.loop-k-test.taken, c.feed_count-count.ensures.upper_bound) }
+    record { fits = omega (arith, c.loop-k-test.true, c.feed_count-count.ensures.upper_bound) }
 
 pub bounds-pairs-k : goal.bounds-pairs-k
 bounds-pairs-k c =
@@ -41,16 +41,16 @@ bounds-pairs-k c =
       arith,
       ap length c.feed_pairs-pairs.ensures ∙ long-pairs c.args.table.now c.requires.sound.long,
       c.feed_count-count.ensures.value,
-      c.loop-k-test.taken,
+      c.loop-k-test.true,
     )
 
 pub overflow_mul-output : goal.overflow_mul-output
 overflow_mul-output c =
-    record { fits = omega (arith, c.loop-k-test.taken, c.feed_count-count.ensures.upper_bound) }
+    record { fits = omega (arith, c.loop-k-test.true, c.feed_count-count.ensures.upper_bound) }
 
 pub overflow_add-output : goal.overflow_add-output
 overflow_add-output c =
-    record { fits = omega (arith, c.loop-k-test.taken, c.feed_count-count.ensures.upper_bound) }
+    record { fits = omega (arith, c.loop-k-test.true, c.feed_count-count.ensures.upper_bound) }
 
 pub bounds-pairs-k-in-loop-k : goal.bounds-pairs-k-in-loop-k
 bounds-pairs-k-in-loop-k c =
@@ -58,13 +58,13 @@ bounds-pairs-k-in-loop-k c =
       arith,
       ap length c.feed_pairs-pairs.ensures ∙ long-pairs c.args.table.now c.requires.sound.long,
       c.feed_count-count.ensures.value,
-      c.loop-k-test.taken,
+      c.loop-k-test.true,
     )
 
 pub overflow_cast-output : goal.overflow_cast-output
 overflow_cast-output c =
     let more : c.loop-k.k < feeds c.args.table.now = omega
-    (arith, c.loop-k-test.taken, c.feed_count-count.ensures.value) in
+    (arith, c.loop-k-test.true, c.feed_count-count.ensures.value) in
     record {
       fits = omega (
         arith,
@@ -76,12 +76,12 @@ overflow_cast-output c =
 
 pub overflow_add-k : goal.overflow_add-k
 overflow_add-k c =
-    record { fits = omega (arith, c.loop-k-test.taken, c.feed_count-count.ensures.upper_bound) }
+    record { fits = omega (arith, c.loop-k-test.true, c.feed_count-count.ensures.upper_bound) }
 
 pub bounds-lows-output : goal.bounds-lows-output
 bounds-lows-output c =
     let more : c.loop-k.k < feeds c.args.table.now = omega
-    (arith, c.loop-k-test.taken, c.feed_count-count.ensures.value) in
+    (arith, c.loop-k-test.true, c.feed_count-count.ensures.value) in
     omega (
       arith,
       ap (λ l. pair_output l c.loop-k.k) c.feed_pairs-pairs.ensures,
@@ -92,7 +92,7 @@ bounds-lows-output c =
 pub overflow_cast-input : goal.overflow_cast-input
 overflow_cast-input c =
     let more : c.loop-k.k < feeds c.args.table.now = omega
-    (arith, c.loop-k-test.taken, c.feed_count-count.ensures.value) in
+    (arith, c.loop-k-test.true, c.feed_count-count.ensures.value) in
     record {
       fits = omega (
         arith,
@@ -105,7 +105,7 @@ overflow_cast-input c =
 pub overflow_add-sets-then-input-lows : goal.overflow_add-sets-then-input-lows
 overflow_add-sets-then-input-lows c =
     let more : c.loop-k.k < feeds c.args.table.now = omega
-    (arith, c.loop-k-test.taken, c.feed_count-count.ensures.value) in
+    (arith, c.loop-k-test.true, c.feed_count-count.ensures.value) in
     record {
       fits = omega (
         arith,
@@ -120,7 +120,7 @@ overflow_add-sets-then-input-lows c =
 pub bounds-lows-output-then-not-has : goal.bounds-lows-output-then-not-has
 bounds-lows-output-then-not-has c =
     let more : c.loop-k.k < feeds c.args.table.now = omega
-    (arith, c.loop-k-test.taken, c.feed_count-count.ensures.value) in
+    (arith, c.loop-k-test.true, c.feed_count-count.ensures.value) in
     omega (
       arith,
       ap (λ l. pair_output l c.loop-k.k) c.feed_pairs-pairs.ensures,
@@ -129,13 +129,13 @@ bounds-lows-output-then-not-has c =
     )
 
 pub loop-k-smaller-then-not-has : goal.loop-k-smaller-then-not-has
-loop-k-smaller-then-not-has c = omega (arith, c.loop-k-test.taken)
+loop-k-smaller-then-not-has c = omega (arith, c.loop-k-test.true)
 
 pub loop-k-preserved-then-not-has : goal.loop-k-preserved-then-not-has
 loop-k-preserved-then-not-has c =
     let has' = c.has in
     let more : c.loop-k.k < feeds c.args.table.now = omega
-    (arith, c.loop-k-test.taken, c.feed_count-count.ensures.value) in
+    (arith, c.loop-k-test.true, c.feed_count-count.ensures.value) in
     let sets = ap₂ ◌+◌ (ap₂ ◌+◌ c.unit_count.ensures.value c.output_count.ensures.value)
     (ap (λ l. pair_input l c.loop-k.k) c.feed_pairs-pairs.ensures) in
     subst (λ l. Gets c.args.table.now (has c.args.marks.now)
@@ -149,13 +149,13 @@ loop-k-preserved-then-not-has c =
     (denies has'.ensures (not-true _ c.if-not-has.true-raw))))
 
 pub loop-k-smaller-else-not-has : goal.loop-k-smaller-else-not-has
-loop-k-smaller-else-not-has c = omega (arith, c.loop-k-test.taken)
+loop-k-smaller-else-not-has c = omega (arith, c.loop-k-test.true)
 
 pub loop-k-preserved-else-not-has : goal.loop-k-preserved-else-not-has
 loop-k-preserved-else-not-has c =
     let has' = c.has in
     let more : c.loop-k.k < feeds c.args.table.now = omega
-    (arith, c.loop-k-test.taken, c.feed_count-count.ensures.value) in
+    (arith, c.loop-k-test.true, c.feed_count-count.ensures.value) in
     let sets = ap₂ ◌+◌ (ap₂ ◌+◌ c.unit_count.ensures.value c.output_count.ensures.value)
     (ap (λ l. pair_input l c.loop-k.k) c.feed_pairs-pairs.ensures) in
     gets-done c.args.table.now c.requires.sound (has c.args.marks.now) c.loop-k.lows c.loop-k.k
@@ -164,12 +164,12 @@ loop-k-preserved-else-not-has c =
     (says has'.ensures (not-false _ c.if-not-has.false-raw)))
 
 pub loop-k-smaller : goal.loop-k-smaller
-loop-k-smaller c = omega (arith, c.loop-k-test.taken)
+loop-k-smaller c = omega (arith, c.loop-k-test.true)
 
 pub loop-k-preserved : goal.loop-k-preserved
 loop-k-preserved c =
     let more : c.loop-k.k < feeds c.args.table.now = omega
-    (arith, c.loop-k-test.taken, c.feed_count-count.ensures.value) in
+    (arith, c.loop-k-test.true, c.feed_count-count.ensures.value) in
     gets_higher c.args.table.now c.requires.sound (has c.args.marks.now) c.loop-k.lows c.loop-k.k
     more c.loop-k.invariant
     (subst (λ l. get_or c.loop-k.lows (pair_output l c.loop-k.k) 0 ≤ pair_input l c.loop-k.k)

@@ -38,7 +38,7 @@ bounds-kinds-x c =
       arith,
       ap length c.input_kinds-kinds.ensures ∙ long-kinds c.args.table.now c.requires.sound.long,
       c.loop-x.invariant.within,
-      c.loop-x-test.taken,
+      c.loop-x-test.true,
     )
 
 pub overflow_add-sets-then-kinds-x-eq1 : goal.overflow_add-sets-then-kinds-x-eq1
@@ -65,7 +65,7 @@ bounds-owners-x c =
       ap length c.input_owners-owners.ensures ∙ long_input_owners c.args.table.now
       c.requires.sound.long,
       c.loop-x.invariant.within,
-      c.loop-x-test.taken,
+      c.loop-x-test.true,
     )
 
 pub overflow_cast-lows-then-not-has-2 : goal.overflow_cast-lows-then-not-has-2
@@ -75,7 +75,7 @@ overflow_cast-lows-then-not-has-2 c =
         arith,
         ap (λ l. get_or l (c.loop-x.x - 1) 0) c.input_owners-owners.ensures,
         steps_owner c.args.table.now c.requires.sound (has c.args.marks.now) c.loop-x.lows
-        c.loop-x.x c.loop-x-test.taken
+        c.loop-x.x c.loop-x-test.true
             c.loop-x.invariant,
       );
     }
@@ -86,19 +86,19 @@ bounds-lows-owners c =
       arith,
       ap (λ l. get_or l (c.loop-x.x - 1) 0) c.input_owners-owners.ensures,
       steps_owner c.args.table.now c.requires.sound (has c.args.marks.now) c.loop-x.lows
-      c.loop-x.x c.loop-x-test.taken
+      c.loop-x.x c.loop-x-test.true
           c.loop-x.invariant,
     )
 
 pub loop-x-smaller-then-not-has : goal.loop-x-smaller-then-not-has
-loop-x-smaller-then-not-has c = omega (arith, c.loop-x-test.taken)
+loop-x-smaller-then-not-has c = omega (arith, c.loop-x-test.true)
 
 pub loop-x-preserved-then-not-has : goal.loop-x-preserved-then-not-has
 loop-x-preserved-then-not-has c =
     let has' = c.has in
     let x = c.loop-x.x - 1 in
     steps_here c.args.table.now c.requires.sound (has c.args.marks.now) c.loop-x.lows c.loop-x.x
-    c.loop-x-test.taken
+    c.loop-x-test.true
     c.loop-x.invariant _
     (ap (λ l. get_or l x 0) c.input_owners-owners.ensures)
     (sym (ap (λ l. get_or l x 0) c.input_kinds-kinds.ensures) ∙ c.if-kinds-x-eq1.true)
@@ -107,25 +107,25 @@ loop-x-preserved-then-not-has c =
     (denies has'.ensures (not-true _ c.if-not-has.true-raw)))
 
 pub loop-x-smaller-else-not-has : goal.loop-x-smaller-else-not-has
-loop-x-smaller-else-not-has c = omega (arith, c.loop-x-test.taken)
+loop-x-smaller-else-not-has c = omega (arith, c.loop-x-test.true)
 
 pub loop-x-preserved-else-not-has : goal.loop-x-preserved-else-not-has
 loop-x-preserved-else-not-has c =
     let has' = c.has in
     steps_done c.args.table.now c.requires.sound (has c.args.marks.now) c.loop-x.lows c.loop-x.x
-    c.loop-x-test.taken
+    c.loop-x-test.true
     c.loop-x.invariant
     (subst (λ n. T (has c.args.marks.now (n + (c.loop-x.x - 1))))
     (ap₂ ◌+◌ c.unit_count.ensures.value c.output_count.ensures.value)
     (says has'.ensures (not-false _ c.if-not-has.false-raw)))
 
 pub loop-x-smaller : goal.loop-x-smaller
-loop-x-smaller c = omega (arith, c.loop-x-test.taken)
+loop-x-smaller c = omega (arith, c.loop-x-test.true)
 
 pub loop-x-preserved : goal.loop-x-preserved
 loop-x-preserved c =
     steps_delayed c.args.table.now c.requires.sound (has c.args.marks.now) c.loop-x.lows
-    c.loop-x.x c.loop-x-test.taken
+    c.loop-x.x c.loop-x-test.true
     c.loop-x.invariant
     (λ e. c.if-kinds-x-eq1.false (ap (λ l. get_or l (c.loop-x.x - 1) 0)
     c.input_kinds-kinds.ensures ∙ e))

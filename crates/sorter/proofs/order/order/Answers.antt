@@ -33,10 +33,13 @@ returns-then-out-count c =
 
 pub place-placed-requires : goal.place-placed-requires
 place-placed-requires c =
-    (
-      passed-sound c.args.table.now (sym c.first_refusal-number.ensures ∙ c.if-number-ne0.false),
-      (c.call_count-count.ensures, (search rules, zeros 224)),
-    )
+    record {
+      sound = passed-sound c.args.table.now (sym c.first_refusal-number.ensures ∙
+      c.if-number-ne0.false);
+      count_value = c.call_count-count.ensures;
+      waiting_len = search rules;
+      by_index = zeros 224;
+    }
 
 pub write_back-requires : goal.write_back-requires
 write_back-requires c =
@@ -72,11 +75,14 @@ show_cycle-length-requires c =
     c.call_count-count.ensures c.if-many-count.false in
     let stand = stood c.args.table.now _ c.place-placed.ensures.standing _ _
     c.place-placed.ensures.count_value_2 c.place-placed.ensures.last_value in
-    (
-      passed-sound c.args.table.now sound,
-      (c.call_count-count.ensures, (c.place-placed.ensures.standing.long,
-      (early, (stand, c.if-out-count.false)))),
-    )
+    record {
+      sound = passed-sound c.args.table.now sound;
+      count_value = c.call_count-count.ensures;
+      bytes_len = c.place-placed.ensures.standing.long;
+      placed_lt_count = early;
+      last_value = stand;
+      count_in_bounds = c.if-out-count.false;
+    }
 
 pub returns : goal.returns
 returns c =

@@ -14,23 +14,23 @@ use Rattle.sorter.proofs.order.show_cycle.Goals as goal
 
 pub left_over-first-requires : goal.left_over-first-requires
 left_over-first-requires c =
-    (c.requires.sound, (c.requires.count_value, (c.requires.last_value, search rules)))
+    let all = (c.requires.sound, (c.requires.count_value, (c.requires.last_value, search rules)))
+    in
+    record { sound = all.0; count_value = all.1.0; last_value = all.1.1.0; steps_len =
+    all.1.1.1.0; gets_len = all.1.1.1.1 }
 
 pub walk_back-met-requires : goal.walk_back-met-requires
 walk_back-met-requires c =
     let many = sym (ap length c.requires.last_value) ∙ chain-long c.args.bytes.now c.args.placed
     c.args.last in
-    (
-      c.requires.sound,
-      (
-        omega (arith, many, c.requires.count_value, c.requires.placed_lt_count),
-        (
-          c.left_over-first.ensures.value,
-          (c.left_over-first.ensures.low_steps, (c.left_over-first.ensures.low_gets,
-          c.requires.bytes_len)),
-        ),
-      ),
-    )
+    record {
+      sound = c.requires.sound;
+      table_len_bound = omega (arith, many, c.requires.count_value, c.requires.placed_lt_count);
+      first_value = c.left_over-first.ensures.value;
+      low_steps = c.left_over-first.ensures.low_steps;
+      low_gets = c.left_over-first.ensures.low_gets;
+      path_len = c.requires.bytes_len;
+    }
 
 pub overflow_cast-call : goal.overflow_cast-call
 overflow_cast-call c =

@@ -1,7 +1,6 @@
 -- The lowest so far is at most each byte passed, and one of them or the bound.
 use borrow.Author.Rules.{rules}
 use Prim.Native.Nat.{◌-◌, ◌≤◌}
-use mathlib.Core.Logic.{⊎_elim}
 use lib.ListN.{length}
 use Rattle.sorter.proofs.Turning.{Low, low_starts, low_lower, low-stays, low-ends}
 use Rattle.sorter.proofs.show.lowest_of.Goals as goal
@@ -16,12 +15,12 @@ loop-i-preserved c =
       search rules,
       elim c.if-bytes-i.branch [
       | then-bytes-i w ↦
-          rw w.2
+          rw w.low-is
           (low_lower c.args.bytes.now c.args.count c.loop-i.i c.loop-i.low c.loop-i-test.true
           w.if-bytes-i.true
           c.loop-i.invariant.1)
       | else-bytes-i w ↦
-          rw w.1
+          rw w.low-is
           (low-stays c.args.bytes.now c.args.count c.loop-i.i c.loop-i.low w.if-bytes-i.false
           c.loop-i.invariant.1)
     ],

@@ -1,11 +1,12 @@
 -- What is written and what is to come is the list turned (`turning_on`).
 use borrow.Author.Rules.{rules}
 use Prim.Native.Nat.{◌-◌}
-use mathlib.Core.Logic.{⊎_elim, inl, inr}
+use mathlib.Core.Logic.{inl, inr}
 use native.Mathlib.Omega.{arith}
 use lib.ListN.{length}
 use Rattle.sorter.proofs.Turning.{Turning, turning_starts, turning_on, turning_ends}
 use Rattle.sorter.proofs.show.write_turned.Goals as goal
+use Rattle.sorter.proofs.show.write_turned.Goals.{else-from-bytes, then-from-bytes}
 
 pub loop-to-init : goal.loop-to-init
 loop-to-init c =
@@ -16,7 +17,10 @@ bounds-bytes-from c =
     (turning_on c.args.bytes.now c.args.first c.args.out.now c.loop-to.out c.loop-to.from
     c.if-from-bytes.from c.loop-to.to c.requires.first_in_bounds
     c.requires.bytes_in_bounds c.loop-to-test.true
-    (⊎_elim (λ w. inl (w.0.taken, w.1)) (λ w. inr (w.0.left, w.1)) c.if-from-bytes.came)
+    (elim c.if-from-bytes.branch [
+    | then-from-bytes w ↦ inl (w.if-from-bytes.true, w.from-is)
+    | else-from-bytes w ↦ inr (w.if-from-bytes.false, w.from-is)
+    ])
     c.loop-to.invariant).0
 
 pub bounds-out-to : goal.bounds-out-to
@@ -28,7 +32,10 @@ overflow_add-from c =
     let z = (turning_on c.args.bytes.now c.args.first c.args.out.now c.loop-to.out c.loop-to.from
     c.if-from-bytes.from c.loop-to.to c.requires.first_in_bounds
     c.requires.bytes_in_bounds c.loop-to-test.true
-    (⊎_elim (λ w. inl (w.0.taken, w.1)) (λ w. inr (w.0.left, w.1)) c.if-from-bytes.came)
+    (elim c.if-from-bytes.branch [
+    | then-from-bytes w ↦ inl (w.if-from-bytes.true, w.from-is)
+    | else-from-bytes w ↦ inr (w.if-from-bytes.false, w.from-is)
+    ])
     c.loop-to.invariant).0 in
     search rules
 
@@ -37,7 +44,10 @@ loop-to-preserved c =
     (turning_on c.args.bytes.now c.args.first c.args.out.now c.loop-to.out c.loop-to.from
     c.if-from-bytes.from c.loop-to.to c.requires.first_in_bounds
     c.requires.bytes_in_bounds c.loop-to-test.true
-    (⊎_elim (λ w. inl (w.0.taken, w.1)) (λ w. inr (w.0.left, w.1)) c.if-from-bytes.came)
+    (elim c.if-from-bytes.branch [
+    | then-from-bytes w ↦ inl (w.if-from-bytes.true, w.from-is)
+    | else-from-bytes w ↦ inr (w.if-from-bytes.false, w.from-is)
+    ])
     c.loop-to.invariant).1
 
 pub shape_of-out : goal.shape_of-out

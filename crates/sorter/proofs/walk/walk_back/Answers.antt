@@ -39,9 +39,14 @@ bounds-path-at c =
 
 pub lowest_before-call-requires : goal.lowest_before-call-requires
 lowest_before-call-requires c =
-    (c.requires.sound, (c.loop-seen.invariant.here,
-    (c.requires.table_len_bound, (c.loop-seen.invariant.waits,
-    (c.requires.low_steps, c.requires.low_gets)))))
+    record {
+      sound = c.requires.sound;
+      call_bound = c.loop-seen.invariant.here;
+      table_len_bound = c.requires.table_len_bound;
+      t = c.loop-seen.invariant.waits;
+      low_steps = c.requires.low_steps;
+      low_gets = c.requires.low_gets;
+    }
 
 pub loop-seen-smaller : goal.loop-seen-smaller
 loop-seen-smaller c =

@@ -14,7 +14,10 @@ pub line-taken-requires : goal.line-taken-requires
 line-taken-requires c =
     let told = told-fields _ _ _ c.requires.ended c.loop-at-test.true c.fields_at-fields.ensures
     in
-    (c.loop-at.invariant.fit, told)
+    record {
+      fit = c.loop-at.invariant.fit;
+      told = told;
+    }
 
 pub returns-then-bad-ne0 : goal.returns-then-bad-ne0
 returns-then-bad-ne0 c =
