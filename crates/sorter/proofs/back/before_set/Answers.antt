@@ -12,7 +12,7 @@ use Rattle.placing.specs.Placing.{placed_of}
 use Rattle.sorter.proofs.Before.{set-step}
 use Rattle.sorter.proofs.Closed.{source-left}
 use Rattle.sorter.proofs.back.before_set.Goals as goal
-use Rattle.sorter.proofs.back.before_set.Goals.{else-byte-eq0, then-byte-eq0}
+use Rattle.sorter.proofs.back.before_set.Goals.{else-byte-eq0, then-byte-eq0+else-step_left}
 
 pub step_left-requires : goal.step_left-requires
 step_left-requires c =
@@ -46,7 +46,7 @@ returns c =
     ∙ source-left c.args.table.now c.requires.sound c.requires.table_len_bound c.args.input
     c.requires.input_bound c.requires.t
     (λ z. elim c.if-byte-eq0.branch [
-      | then-byte-eq0 w ↦
+      | then-byte-eq0+else-step_left w ↦
           subst (λ n. T (done n))
           (w.byte-step.ensures.value ∙ ap (λ l. get_or l c.args.input 0) w.input_owners.ensures)
           (not-not (done w.byte-step.result) (denies w.step_left.ensures w.if-step_left.false))

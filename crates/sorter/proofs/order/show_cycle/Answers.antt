@@ -14,10 +14,13 @@ use Rattle.sorter.proofs.order.show_cycle.Goals as goal
 
 pub left_over-first-requires : goal.left_over-first-requires
 left_over-first-requires c =
-    let all = (c.requires.sound, (c.requires.count_value, (c.requires.last_value, search rules)))
-    in
-    record { sound = all.0; count_value = all.1.0; last_value = all.1.1.0; steps_len =
-    all.1.1.1.0; gets_len = all.1.1.1.1 }
+    record {
+      sound = c.requires.sound;
+      count_value = c.requires.count_value;
+      last_value = c.requires.last_value;
+      steps_len = search rules;
+      gets_len = search rules;
+    }
 
 pub walk_back-met-requires : goal.walk_back-met-requires
 walk_back-met-requires c =
