@@ -14,7 +14,7 @@ use Rattle.grammar.specs.Draft.{Draft, Output, Input, Feed, no_input, unit_named
 use Rattle.grammar.specs.Draft.{input_named, add_unit, add_output, add_input, add_feed, add_join, joined}
 use Rattle.grammar.specs.Lines.{kind_of}
 use Rattle.reading.specs.Takes.{takes-unit, takes-output, takes-input}
-use Rattle.reading.specs.Takes.{takes-feed, takes-join, Runs, ends, goes_on}
+use Rattle.reading.specs.Takes.{takes-feed, takes-join, Takes, Runs, ends, goes_on}
 use Rattle.reading.specs.Found.{place-front, place_map}
 
 -- what there was, and behind it what each line that opens with w gives
@@ -43,11 +43,16 @@ pub units-run : {d last : Draft} {k : ℕ} {fs : List Row} → Runs d k fs last
     → last.units ≡ onward (ascii "unit") (λ f. word f 1) d.units fs
 unfolding same add_unit add_output add_input add_feed add_join
 units-run ends = at_first _ _ _
-units-run {d} (goes_on (takes-unit w n) r) = units-run r ∙ one-more _ _ d.units _ _ _ w refl
-units-run (goes_on (takes-output w u n) r) = units-run r ∙ no_more _ _ _ _ _ _ w tt
-units-run (goes_on (takes-input w u n) r) = units-run r ∙ no_more _ _ _ _ _ _ w tt
-units-run (goes_on (takes-feed w u x y) r) = units-run r ∙ no_more _ _ _ _ _ _ w tt
-units-run (goes_on (takes-join w u y v x s) r) = units-run r ∙ no_more _ _ _ _ _ _ w tt
+units-run {d} (goes_on {last = last} {k = k} {f = f} {fs = fs} t r) = step t (units-run r)
+  where
+    step : {e : Draft} → Takes d k f e
+        → last.units ≡ onward (ascii "unit") (λ f. word f 1) e.units fs
+        → last.units ≡ onward (ascii "unit") (λ f. word f 1) d.units (f ∷ fs)
+    step (takes-unit w n) b = b ∙ one-more _ _ d.units _ _ _ w refl
+    step (takes-output w u n) b = b ∙ no_more _ _ _ _ _ _ w tt
+    step (takes-input w u n) b = b ∙ no_more _ _ _ _ _ _ w tt
+    step (takes-feed w u x y) b = b ∙ no_more _ _ _ _ _ _ w tt
+    step (takes-join w u y v x s) b = b ∙ no_more _ _ _ _ _ _ w tt
 
 -- ---- what a line declares, with numbers from the draft d
 
@@ -84,13 +89,17 @@ pub outputs-run : {d last : Draft} {k : ℕ} {fs : List Row} → Runs d k fs las
     → last.outputs ≡ onward (ascii "out") (output_by last) d.outputs fs
 unfolding same add_unit add_output add_input add_feed add_join
 outputs-run ends = at_first _ _ _
-outputs-run (goes_on (takes-unit w n) r) = outputs-run r ∙ no_more _ _ _ _ _ _ w tt
-outputs-run {d} (goes_on (takes-output w u n) r) =
-    let s = unit-stays (goes_on (takes-output w u n) r) _ u in
-    outputs-run r ∙ one-more _ _ d.outputs _ _ _ w (rw s)
-outputs-run (goes_on (takes-input w u n) r) = outputs-run r ∙ no_more _ _ _ _ _ _ w tt
-outputs-run (goes_on (takes-feed w u x y) r) = outputs-run r ∙ no_more _ _ _ _ _ _ w tt
-outputs-run (goes_on (takes-join w u y v x s) r) = outputs-run r ∙ no_more _ _ _ _ _ _ w tt
+outputs-run {d} (goes_on {last = last} {k = k} {f = f} {fs = fs} t r) = step t (outputs-run r)
+  where
+    step : {e : Draft} → Takes d k f e
+        → last.outputs ≡ onward (ascii "out") (output_by last) e.outputs fs
+        → last.outputs ≡ onward (ascii "out") (output_by last) d.outputs (f ∷ fs)
+    step (takes-unit w n) b = b ∙ no_more _ _ _ _ _ _ w tt
+    step (takes-output w u n) b =
+        let s = unit-stays (goes_on t r) _ u in b ∙ one-more _ _ d.outputs _ _ _ w (rw s)
+    step (takes-input w u n) b = b ∙ no_more _ _ _ _ _ _ w tt
+    step (takes-feed w u x y) b = b ∙ no_more _ _ _ _ _ _ w tt
+    step (takes-join w u y v x s) b = b ∙ no_more _ _ _ _ _ _ w tt
 
 pub output-stays : {d last : Draft} {k : ℕ} {fs : List Row} → Runs d k fs last
     → (u : ℕ) (w : List ℕ) → output_named d u w < length d.outputs
@@ -109,16 +118,21 @@ pub inputs-run : {d last : Draft} {k : ℕ} {fs : List Row} → Runs d k fs last
     → map bare last.inputs ≡ onward (ascii "in") (input_by last) (map bare d.inputs) fs
 unfolding same add_unit add_output add_input add_feed
 inputs-run ends = at_first _ _ _
-inputs-run (goes_on (takes-unit w n) r) = inputs-run r ∙ no_more _ _ _ _ _ _ w tt
-inputs-run (goes_on (takes-output w u n) r) = inputs-run r ∙ no_more _ _ _ _ _ _ w tt
-inputs-run {d} (goes_on {last = last} {fs = fs} (takes-input w u n) r) =
-    let s = unit-stays (goes_on (takes-input w u n) r) _ u in
-    inputs-run r ∙ ap (λ z. onward (ascii "in") (input_by last) z fs) (map-append bare d.inputs _)
-    ∙ one-more _ _ (map bare d.inputs) _ _ _ w (rw s)
-inputs-run (goes_on (takes-feed w u x y) r) = inputs-run r ∙ no_more _ _ _ _ _ _ w tt
-inputs-run {d} (goes_on {last = last} {fs = fs} (takes-join w u y v x s) r) =
-    inputs-run r ∙ ap (λ z. onward (ascii "in") (input_by last) z fs) (bare-join d _ _)
-    ∙ no_more _ _ _ _ _ _ w tt
+inputs-run {d} (goes_on {last = last} {k = k} {f = f} {fs = fs} t r) = step t (inputs-run r)
+  where
+    step : {e : Draft} → Takes d k f e
+        → map bare last.inputs ≡ onward (ascii "in") (input_by last) (map bare e.inputs) fs
+        → map bare last.inputs ≡ onward (ascii "in") (input_by last) (map bare d.inputs) (f ∷ fs)
+    step (takes-unit w n) b = b ∙ no_more _ _ _ _ _ _ w tt
+    step (takes-output w u n) b = b ∙ no_more _ _ _ _ _ _ w tt
+    step (takes-input w u n) b =
+        let s = unit-stays (goes_on t r) _ u in
+        b ∙ ap (λ z. onward (ascii "in") (input_by last) z fs) (map-append bare d.inputs _)
+        ∙ one-more _ _ (map bare d.inputs) _ _ _ w (rw s)
+    step (takes-feed w u x y) b = b ∙ no_more _ _ _ _ _ _ w tt
+    step (takes-join w u y v x s) b =
+        b ∙ ap (λ z. onward (ascii "in") (input_by last) z fs) (bare-join d _ _)
+        ∙ no_more _ _ _ _ _ _ w tt
 
 -- an input is found by what is left without its source and its line
 pub named-bare : (d : Draft) (u : ℕ) (w : List ℕ)
@@ -141,11 +155,16 @@ pub feeds-run : {d last : Draft} {k : ℕ} {fs : List Row} → Runs d k fs last
     → last.feeds ≡ onward (ascii "feed") (feed_by last) d.feeds fs
 unfolding same add_unit add_output add_input add_feed add_join
 feeds-run ends = at_first _ _ _
-feeds-run (goes_on (takes-unit w n) r) = feeds-run r ∙ no_more _ _ _ _ _ _ w tt
-feeds-run (goes_on (takes-output w u n) r) = feeds-run r ∙ no_more _ _ _ _ _ _ w tt
-feeds-run (goes_on (takes-input w u n) r) = feeds-run r ∙ no_more _ _ _ _ _ _ w tt
-feeds-run {d} (goes_on (takes-feed w u x y) r) =
-    let t = goes_on (takes-feed w u x y) r in
-    feeds-run r ∙ one-more _ _ d.feeds _ _ _ w
-    (rw (input-stays t _ _ x, output-stays t _ _ y, unit-stays t _ u))
-feeds-run (goes_on (takes-join w u y v x s) r) = feeds-run r ∙ no_more _ _ _ _ _ _ w tt
+feeds-run {d} (goes_on {last = last} {k = k} {f = f} {fs = fs} t r) = step t (feeds-run r)
+  where
+    step : {e : Draft} → Takes d k f e
+        → last.feeds ≡ onward (ascii "feed") (feed_by last) e.feeds fs
+        → last.feeds ≡ onward (ascii "feed") (feed_by last) d.feeds (f ∷ fs)
+    step (takes-unit w n) b = b ∙ no_more _ _ _ _ _ _ w tt
+    step (takes-output w u n) b = b ∙ no_more _ _ _ _ _ _ w tt
+    step (takes-input w u n) b = b ∙ no_more _ _ _ _ _ _ w tt
+    step (takes-feed w u x y) b =
+        let g = goes_on t r in
+        b ∙ one-more _ _ d.feeds _ _ _ w
+        (rw (input-stays g _ _ x, output-stays g _ _ y, unit-stays g _ u))
+    step (takes-join w u y v x s) b = b ∙ no_more _ _ _ _ _ _ w tt

@@ -1,6 +1,7 @@
 -- The first line declares nothing: the numbers are those of the lines below it.
 use Rattle.std.specs.Prelude.{ℕ, suc, ◌≡◌, not, List, ◌∷◌, T}
-use Rattle.std.proofs.Math.Path.{fun_ext}
+use Rattle.std.proofs.Math.Path.{fun_ext, ap}
+use Rattle.std.proofs.Common.{◌∙◌}
 use Rattle.grammar.specs.Quoted.{ascii}
 use Rattle.grammar.specs.Words.{same}
 use Rattle.grammar.specs.Rows.{word, place}
@@ -59,10 +60,7 @@ module _ (first : Row) (fs : List Row) (opened : word first 0 ≡ ascii "cosim")
   unfolding is_loose same
   loose-alike = fun_ext (λ f. rw (place-below, below (ascii "join") tt))
 
-  loose-step : place (is_loose fs) (first ∷ fs) ≡ suc (place (is_loose fs) fs)
-  unfolding place is_loose same
-  loose-step = rw opened (λ i. suc (place (is_loose fs) fs))
-
   -- nor is it an `in` line
   pub loose-below : place (is_loose (first ∷ fs)) (first ∷ fs) ≡ suc (place (is_loose fs) fs)
-  loose-below = rw loose-alike loose-step
+  unfolding place is_loose same
+  loose-below = ap (λ p. place p (first ∷ fs)) loose-alike ∙ rw opened

@@ -14,7 +14,7 @@ use Rattle.grammar.specs.Opening.{Row, lines_of}
 use Rattle.grammar.specs.Draft.{Draft, Input, unjoined, no_input, unit_named, output_named}
 use Rattle.grammar.specs.Draft.{input_named, add_unit, add_output, add_input, add_feed, add_join, joined}
 use Rattle.reading.specs.Takes.{takes-unit, takes-output, takes-input}
-use Rattle.reading.specs.Takes.{takes-feed, takes-join, Runs, ends, goes_on}
+use Rattle.reading.specs.Takes.{takes-feed, takes-join, Takes, Runs, ends, goes_on}
 use Rattle.reading.specs.Parts.{map_in}
 use Rattle.reading.specs.Declared.{onward, outputs-run, unit-stays, output-stays, input-stays}
 
@@ -156,14 +156,18 @@ pub sources-run : {d last : Draft} {k : ℕ} {fs : List Row} → Runs d k fs las
     → length last.outputs ≤ 255 → (x : ℕ) → source_at last x ≡ or_by (source_at d x) last x fs
 unfolding same add_unit add_output add_feed
 sources-run ends m x = or_first _ _ _
-sources-run (goes_on (takes-unit w n) r) m x = sources-run r m x ∙ or_none _ _ _ _ _ _ w tt
-sources-run (goes_on (takes-output w u n) r) m x = sources-run r m x ∙ or_none _ _ _ _ _ _ w tt
-sources-run {d} (goes_on {last = last} {fs = fs} (takes-input w u n) r) m x =
-    sources-run r m x ∙ ap (λ s. or_by s last x fs) (source_more d _ refl x)
-    ∙ or_none _ _ _ _ _ _ w tt
-sources-run (goes_on (takes-feed w u y z) r) m x = sources-run r m x ∙ or_none _ _ _ _ _ _ w tt
-sources-run {d} (goes_on {last = last} {f = f} {fs = fs} (takes-join w u y v z s) r) m x =
-    let t = goes_on (takes-join w u y v z s) r in
-    sources-run r m x
-    ∙ or_join d _ _ last f fs w (join-input-stays t f v z) (join-output-stays t f u y) z s
-    (omega (arith, outputs-more t)) x
+sources-run {d} (goes_on {last = last} {k = k} {f = f} {fs = fs} t r) m x =
+    step t (sources-run r m x)
+  where
+    step : {e : Draft} → Takes d k f e
+        → source_at last x ≡ or_by (source_at e x) last x fs
+        → source_at last x ≡ or_by (source_at d x) last x (f ∷ fs)
+    step (takes-unit w n) b = b ∙ or_none _ _ _ _ _ _ w tt
+    step (takes-output w u n) b = b ∙ or_none _ _ _ _ _ _ w tt
+    step (takes-input w u n) b =
+        b ∙ ap (λ s. or_by s last x fs) (source_more d _ refl x) ∙ or_none _ _ _ _ _ _ w tt
+    step (takes-feed w u y z) b = b ∙ or_none _ _ _ _ _ _ w tt
+    step (takes-join w u y v z s) b =
+        let g = goes_on t r in
+        b ∙ or_join d _ _ last f fs w (join-input-stays g f v z) (join-output-stays g f u y) z s
+        (omega (arith, outputs-more g)) x

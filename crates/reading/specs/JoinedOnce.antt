@@ -6,7 +6,7 @@ use Rattle.grammar.specs.Words.{same}
 use Rattle.grammar.specs.Opening.{Row, lines_of}
 use Rattle.grammar.specs.Draft.{Draft, unjoined, add_unit, add_output, add_feed}
 use Rattle.reading.specs.Takes.{takes-unit, takes-output, takes-input}
-use Rattle.reading.specs.Takes.{takes-feed, takes-join, Runs, ends, goes_on}
+use Rattle.reading.specs.Takes.{takes-feed, takes-join, Takes, Runs, ends, goes_on}
 use Rattle.reading.specs.Joined.{join_input, join_output, source_at, first_more}
 use Rattle.reading.specs.Joined.{none_more, source_more, source-joined, source-other}
 use Rattle.reading.specs.Joined.{source_free, join-input-stays, outputs-more}
@@ -30,22 +30,24 @@ not-again : {d last : Draft} {k : ℕ} {fs : List Row} → Runs d k fs last
     → (x : ℕ) → (source_at d x ≡ unjoined → ⊥) → NoneJoins last x (lines_of fs (ascii "join"))
 unfolding same add_unit add_output add_feed
 not-again ends x n = none_first _ x
-not-again (goes_on (takes-unit w h) r) x n =
-    rw (none_more (ascii "join") _ _ _ w tt) (not-again r x n)
-not-again (goes_on (takes-output w u h) r) x n =
-    rw (none_more (ascii "join") _ _ _ w tt) (not-again r x n)
-not-again {d} (goes_on (takes-input w u h) r) x n =
-    rw (none_more (ascii "join") _ _ _ w tt)
-    (not-again r x (λ e. n (sym (source_more d _ refl x) ∙ e)))
-not-again (goes_on (takes-feed w u y z) r) x n =
-    rw (none_more (ascii "join") _ _ _ w tt) (not-again r x n)
-not-again {d} (goes_on {last = last} {f = f} {fs = fs} (takes-join w u y v z s) r) x n =
-    let j = join-input-stays (goes_on (takes-join w u y v z s) r) f v z in
-    let free = source_free d (join_input d f) (join_output d f) z s in
-    let other : x ≡ join_input d f → ⊥ = λ e. n (ap (source_at d) e ∙ free) in
-    rw (first_more (ascii "join") _ _ w)
-    (none_joins last x f _ (λ e. other (sym e ∙ j))
-    (not-again r x (λ e. n (sym (source-other d (join_input d f) (join_output d f) x other) ∙ e))))
+not-again {d} (goes_on {last = last} {k = k} {f = f} {fs = fs} t r) x n = step t (not-again r x)
+  where
+    step : {e : Draft} → Takes d k f e
+        → ((source_at e x ≡ unjoined → ⊥) → NoneJoins last x (lines_of fs (ascii "join")))
+        → NoneJoins last x (lines_of (f ∷ fs) (ascii "join"))
+    step (takes-unit w h) b = rw (none_more (ascii "join") _ _ _ w tt) (b n)
+    step (takes-output w u h) b = rw (none_more (ascii "join") _ _ _ w tt) (b n)
+    step (takes-input w u h) b =
+        rw (none_more (ascii "join") _ _ _ w tt)
+        (b (λ e. n (sym (source_more d _ refl x) ∙ e)))
+    step (takes-feed w u y z) b = rw (none_more (ascii "join") _ _ _ w tt) (b n)
+    step (takes-join w u y v z s) b =
+        let j = join-input-stays (goes_on t r) f v z in
+        let free = source_free d (join_input d f) (join_output d f) z s in
+        let other : x ≡ join_input d f → ⊥ = λ e. n (ap (source_at d) e ∙ free) in
+        rw (first_more (ascii "join") _ _ w)
+        (none_joins last x f _ (λ e. other (sym e ∙ j))
+        (b (λ e. n (sym (source-other d (join_input d f) (join_output d f) x other) ∙ e))))
 
 -- no two of the lines join one input
 unfoldable pub Apart : Draft → List Row → Type 0
@@ -67,20 +69,21 @@ pub joins_apart : {d last : Draft} {k : ℕ} {fs : List Row} → Runs d k fs las
     → length last.outputs ≤ 255 → Apart last (lines_of fs (ascii "join"))
 unfolding same add_unit add_output add_feed
 joins_apart ends m = apart-first _
-joins_apart (goes_on (takes-unit w h) r) m =
-    rw (none_more (ascii "join") _ _ _ w tt) (joins_apart r m)
-joins_apart (goes_on (takes-output w u h) r) m =
-    rw (none_more (ascii "join") _ _ _ w tt) (joins_apart r m)
-joins_apart (goes_on (takes-input w u h) r) m =
-    rw (none_more (ascii "join") _ _ _ w tt) (joins_apart r m)
-joins_apart (goes_on (takes-feed w u y z) r) m =
-    rw (none_more (ascii "join") _ _ _ w tt) (joins_apart r m)
-joins_apart {d} (goes_on {last = last} {f = f} {fs = fs} (takes-join w u y v z s) r) m =
-    let t = goes_on (takes-join w u y v z s) r in
-    let j = join-input-stays t f v z in
-    let low : join_output d f < 255 = omega (arith, outputs-more t) in
-    rw (first_more (ascii "join") _ _ w)
-    (apart_more last f _
-    (rw j (not-again r (join_input d f)
-    (λ e. omega (arith, sym (source-joined d (join_input d f) (join_output d f) z) ∙ e))))
-    (joins_apart r m))
+joins_apart {d} (goes_on {last = last} {k = k} {f = f} {fs = fs} t r) m =
+    step t r (joins_apart r m)
+  where
+    step : {e : Draft} → Takes d k f e → Runs e (suc k) fs last
+        → Apart last (lines_of fs (ascii "join")) → Apart last (lines_of (f ∷ fs) (ascii "join"))
+    step (takes-unit w h) c a = rw (none_more (ascii "join") _ _ _ w tt) a
+    step (takes-output w u h) c a = rw (none_more (ascii "join") _ _ _ w tt) a
+    step (takes-input w u h) c a = rw (none_more (ascii "join") _ _ _ w tt) a
+    step (takes-feed w u y z) c a = rw (none_more (ascii "join") _ _ _ w tt) a
+    step (takes-join w u y v z s) c a =
+        let g = goes_on t r in
+        let j = join-input-stays g f v z in
+        let low : join_output d f < 255 = omega (arith, outputs-more g) in
+        rw (first_more (ascii "join") _ _ w)
+        (apart_more last f _
+        (rw j (not-again c (join_input d f)
+        (λ e. omega (arith, sym (source-joined d (join_input d f) (join_output d f) z) ∙ e))))
+        a)

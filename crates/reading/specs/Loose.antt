@@ -19,7 +19,7 @@ use Rattle.grammar.specs.Draft.{loose, add_unit, add_output, add_input, add_feed
 use Rattle.reading.specs.Proper.{Proper}
 use Rattle.reading.specs.Parts.{map_in}
 use Rattle.reading.specs.Takes.{takes-unit, takes-output, takes-input}
-use Rattle.reading.specs.Takes.{takes-feed, takes-join, Runs, ends, goes_on}
+use Rattle.reading.specs.Takes.{takes-feed, takes-join, Takes, Runs, ends, goes_on}
 use Rattle.reading.specs.Found.{place-most, place-along}
 use Rattle.reading.specs.Joined.{join_input, join_output, source_by}
 use Rattle.reading.specs.Numbers.{join_place, is_loose}
@@ -59,16 +59,20 @@ lines-run : {d last : Draft} {k : ℕ} {fs : List Row} → Runs d k fs last
     → map line_of last.inputs ≡ with_lines (map line_of d.inputs) k fs
 unfolding same add_unit add_output add_input add_feed add_join joined
 lines-run ends = lines-first _ _
-lines-run (goes_on (takes-unit w n) r) = lines-run r ∙ lines_none _ _ _ _ _ w tt
-lines-run (goes_on (takes-output w u n) r) = lines-run r ∙ lines_none _ _ _ _ _ w tt
-lines-run {d} (goes_on {k = k} {fs = fs} (takes-input w u n) r) =
-    lines-run r ∙ ap (λ l. with_lines l (suc k) fs) (map-append line_of d.inputs _)
-    ∙ lines-one (map line_of d.inputs) k _ fs w
-lines-run (goes_on (takes-feed w u x y) r) = lines-run r ∙ lines_none _ _ _ _ _ w tt
-lines-run {d} (goes_on {k = k} {fs = fs} (takes-join w u y v x s) r) =
-    lines-run r ∙ ap (λ l. with_lines l (suc k) fs)
-    (map-set_same line_of d.inputs _ _ no_input refl)
-    ∙ lines_none _ _ _ _ _ w tt
+lines-run {d} (goes_on {last = last} {k = k} {f = f} {fs = fs} t r) = step t (lines-run r)
+  where
+    step : {e : Draft} → Takes d k f e
+        → map line_of last.inputs ≡ with_lines (map line_of e.inputs) (suc k) fs
+        → map line_of last.inputs ≡ with_lines (map line_of d.inputs) k (f ∷ fs)
+    step (takes-unit w n) b = b ∙ lines_none _ _ _ _ _ w tt
+    step (takes-output w u n) b = b ∙ lines_none _ _ _ _ _ w tt
+    step (takes-input w u n) b =
+        b ∙ ap (λ l. with_lines l (suc k) fs) (map-append line_of d.inputs _)
+        ∙ lines-one (map line_of d.inputs) k _ fs w
+    step (takes-feed w u x y) b = b ∙ lines_none _ _ _ _ _ w tt
+    step (takes-join w u y v x s) b =
+        b ∙ ap (λ l. with_lines l (suc k) fs) (map-set_same line_of d.inputs _ _ no_input refl)
+        ∙ lines_none _ _ _ _ _ w tt
 
 -- the first of the lines that open with w and pass is the first line that opens with w and passes
 first-line : (w : List ℕ) (p : Row → Bool) (k : ℕ) (fs : List Row)

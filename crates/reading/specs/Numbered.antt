@@ -10,7 +10,6 @@ use Rattle.grammar.specs.Rows.{rows, word}
 use Rattle.grammar.specs.Opening.{Row, lines_of}
 use Rattle.grammar.specs.Draft.{Draft, Output, Input, blank, loose}
 use Rattle.grammar.specs.Reading.{Reading, reading, packed}
-use Rattle.table.specs.Packed.{outputs, inputs, feeds}
 use Rattle.reading.specs.Proper.{Proper}
 use Rattle.reading.specs.Takes.{Runs}
 use Rattle.reading.specs.Declared.{bare, output_by, input_by}

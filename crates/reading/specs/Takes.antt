@@ -123,5 +123,5 @@ module _ (d : Draft) (k : ℕ) (f : Row) where
 -- the lines from line k on are taken one after the other, and leave the last draft
 pub data Runs : Draft → ℕ → List Row → Draft → Type 0 where
   ends : {d : Draft} {k : ℕ} → Runs d k [] d
-  goes_on : {d last : Draft} {k : ℕ} {f : Row} {fs : List Row} {e : Draft}
+  goes_on : {d e last : Draft} {k : ℕ} {f : Row} {fs : List Row}
       → Takes d k f e → Runs e (suc k) fs last → Runs d k (f ∷ fs) last
