@@ -45,7 +45,7 @@ returns-in-5 c =
 
 pub returns-in_default : goal.returns-in_default
 returns-in_default c =
+    let not = c.in_default.in_default-own.rest in
     stops _ _ _ _ _ _ _ 24 1 _ c.refused.ensures (λ z. omega arith)
     (line-none _ _ _ _ _ c.keyword_of-keyword.ensures
-    c.word.ensures.result_value c.in_default.rest.0.0.0.0.1 c.in_default.rest.0.0.0.1
-    c.in_default.rest.0.0.1 c.in_default.rest.0.1 c.in_default.rest.1)
+    c.word.ensures.result_value not.0.0.0.0.1 not.0.0.0.1 not.0.0.1 not.0.1 not.1)

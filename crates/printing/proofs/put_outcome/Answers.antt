@@ -4,20 +4,26 @@ use Rattle.printing.proofs.put_outcome.Goals as goal
 
 pub returns-then-answer-eq0 : goal.returns-then-answer-eq0
 returns-then-answer-eq0 c =
-    let all = rw (← outcome-order c.args.text.now _ _ c.args.buffer.now _ c.stretch-calls.ensures
-    c.if-answer-eq0.true)
-    (c.put_calls.ensures.value, c.put_calls.ensures.out_after) in
-    record { value = all.0; out_after = all.1 }
+    let is = outcome-order c.args.text.now _ _ c.args.buffer.now _ c.stretch-calls.ensures
+    c.if-answer-eq0.true in
+    record {
+      value = rw (← is) c.put_calls.ensures.value;
+      out_after = rw (← is) c.put_calls.ensures.out_after;
+    }
 
 pub returns-then-answer-eq9 : goal.returns-then-answer-eq9
 returns-then-answer-eq9 c =
-    let all = rw (← outcome-cycle c.args.text.now _ _ c.args.buffer.now _ c.stretch-calls.ensures
-    c.if-answer-eq0.false c.if-answer-eq9.true)
-    (c.put_calls-then-answer-eq9.ensures.value, c.put_calls-then-answer-eq9.ensures.out_after) in
-    record { value = all.0; out_after = all.1 }
+    let is = outcome-cycle c.args.text.now _ _ c.args.buffer.now _ c.stretch-calls.ensures
+    c.if-answer-eq0.false c.if-answer-eq9.true in
+    record {
+      value = rw (← is) c.put_calls-then-answer-eq9.ensures.value;
+      out_after = rw (← is) c.put_calls-then-answer-eq9.ensures.out_after;
+    }
 
 pub returns : goal.returns
 returns c =
-    let all = rw (← outcome-refused c.args.text.now _ _ _ c.if-answer-eq0.false
-    c.if-answer-eq9.false) (c.put_refusal.ensures.value, c.put_refusal.ensures.out_after) in
-    record { value = all.0; out_after = all.1 }
+    let is = outcome-refused c.args.text.now _ _ _ c.if-answer-eq0.false c.if-answer-eq9.false in
+    record {
+      value = rw (← is) c.put_refusal.ensures.value;
+      out_after = rw (← is) c.put_refusal.ensures.out_after;
+    }
