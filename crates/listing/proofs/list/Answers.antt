@@ -4,16 +4,19 @@ use Rattle.listing.proofs.list.Goals as goal
 
 pub returns-then-reading-ne0 : goal.returns-then-reading-ne0
 returns-then-reading-ne0 c =
-    let all = rw (← list_refused _ _ _ _ (c.read-reading.ensures.value,
-    c.read-reading.ensures.out_after) c.if-reading-ne0.true)
-    (c.put_refusal.ensures.value, c.put_refusal.ensures.out_after) in
-    record { value = all.0; out_after = all.1 }
+    let is = list_refused c.args.text.now _ c.read-reading.new.out c.read-reading.result
+    (c.read-reading.ensures.value, c.read-reading.ensures.out_after) c.if-reading-ne0.true in
+    record {
+      value = rw (← is) c.put_refusal.ensures.value;
+      out_after = rw (← is) c.put_refusal.ensures.out_after;
+    }
 
 pub returns : goal.returns
 returns c =
-    let all = rw
-    (← list-ordered _ _ _ _ (c.read-reading.ensures.value, c.read-reading.ensures.out_after)
-    c.if-reading-ne0.false _ _ _ c.stretch.ensures c.order-answer.ensures.value
-    c.order-answer.ensures.out_after) (c.put_outcome.ensures.value,
-    c.put_outcome.ensures.out_after) in
-    record { value = all.0; out_after = all.1 }
+    let is = list-ordered c.args.text.now _ c.read-reading.new.out c.read-reading.result
+    (c.read-reading.ensures.value, c.read-reading.ensures.out_after) c.if-reading-ne0.false
+    _ _ _ c.stretch.ensures c.order-answer.ensures.value c.order-answer.ensures.out_after in
+    record {
+      value = rw (← is) c.put_outcome.ensures.value;
+      out_after = rw (← is) c.put_outcome.ensures.out_after;
+    }

@@ -1,4 +1,5 @@
 -- Each answer of an ordering has its own text.
+use Rattle.table.specs.Packed.{part}
 use Rattle.printing.proofs.Whole.{outcome-order, outcome-cycle, outcome-refused}
 use Rattle.printing.proofs.put_outcome.Goals as goal
 
@@ -22,7 +23,9 @@ returns-then-answer-eq9 c =
 
 pub returns : goal.returns
 returns c =
-    let is = outcome-refused c.args.text.now _ _ _ c.if-answer-eq0.false c.if-answer-eq9.false in
+    let calls = part c.args.buffer.now 0 c.args.answer.place in
+    let is = outcome-refused c.args.text.now _ c.args.answer.place calls c.if-answer-eq0.false
+    c.if-answer-eq9.false in
     record {
       value = rw (← is) c.put_refusal.ensures.value;
       out_after = rw (← is) c.put_refusal.ensures.out_after;
