@@ -1,4 +1,5 @@
 // What tests and desktop programs call and the box does not: the text, a judged run, precedence.
+// The crate `desk_c` exports it to C.
 #![tactic(auto)]
 
 ghost use Rattle.std.specs.Prelude.{◌≡◌, length};

@@ -1,4 +1,4 @@
-// What the firmware calls from C: SPECIFICATION, For C.
+// What the firmware calls from C: SPECIFICATION, For C. The crate `firmware_c` exports it.
 #![tactic(auto)]
 
 ghost use Rattle.std.specs.Prelude.{◌≡◌, ◌≤◌, length};

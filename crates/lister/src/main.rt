@@ -5,6 +5,7 @@ ghost use Rattle.std.specs.Prelude.{◌≡◌, true, length};
 ghost use Rattle.lister.specs.Within.{Within};
 
 use listing::list;
+use std::io::Read;
 
 // How many bytes a listing has at most (`listing-most` of the crate `listing`).
 const LISTING_MAX: usize = 8860;
@@ -16,27 +17,24 @@ enum Input {
     Failed,
 }
 
-// Reads standard input to its end, or until the room is full.
-fn read_input(room: &mut [u8]) -> Input
+// Reads the input to its end, or until the room is full.
+fn read_input<R: Read>(input: &mut R, room: &mut [u8]) -> Input
     ensures { Within result (length room.old) }
 {
     let mut n = 0;
     while n < room.len() {
-        let got = libc::read(0, &mut room[n..]);
-        if got < 0 {
-            return Input::Failed;
+        match input.read(&mut room[n..]) {
+            Ok(0) => return Input::Bytes(n),
+            Ok(more) => n += more,
+            Err(_) => return Input::Failed,
         }
-        let more = io::count(got, &room[n..]);
-        if more == 0 {
-            return Input::Bytes(n);
-        }
-        n += more;
     }
     Input::Bytes(n)
 }
 
 // Prints the listing of a text, and answers whether there was room for it: there always is.
-fn print(text: &[u8]) -> bool
+// A write that fails is told nowhere: SPECIFICATION, Lister 5.
+fn print(rt: &impl Print, text: &[u8]) -> bool
     ensures { result ≡ true }
 {
     let mut out = [0u8; LISTING_MAX];
@@ -45,22 +43,22 @@ fn print(text: &[u8]) -> bool
         return false;
     }
     let end = answer.place;
-    io::write_all(1, &out[..end]);
+    let _ = rt.write_all(&out[..end]);
     true
 }
 
 // The room for the text is one byte over the limit, so that more than the limit is seen.
-fn main() {
+fn main(rt: HostRuntime) {
     let mut text = [0u8; 24577];
-    let input = read_input(&mut text);
+    let input = read_input(&mut rt.stdin(), &mut text);
     match input {
         Input::Bytes(n) => {
-            if !print(&text[..n]) {
-                io::write_all(2, b"lister: no room for the listing\n");
+            if !print(&rt, &text[..n]) {
+                let _ = rt.eprintln("lister: no room for the listing");
             }
         }
         Input::Failed => {
-            io::write_all(2, b"lister: standard input cannot be read\n");
+            let _ = rt.eprintln("lister: standard input cannot be read");
         }
     }
 }

@@ -1,0 +1,6 @@
+-- The code of what the verdict on the records answers, whose place is small enough.
+use Rattle.judging.specs.Demand.{verdict_most}
+use Rattle.firmware.proofs.oorlichday_verdict_of_records.Goals as goal
+
+pub code-requires : goal.code-requires
+code-requires c = rw c.verdict_of_records.ensures (verdict_most _ _)
