@@ -1,5 +1,7 @@
 -- A set of numbers below 256 as the bits of four words.
-use Rattle.std.specs.Prelude.{ℕ, ◌/◌, ◌%◌, ◌^◌, ◌<◌, ◌≡◌, Bool, not, ◌&&◌, cond, List, length, get_or, set, eqb, ltb}
+use Rattle.std.specs.Prelude.{
+  ℕ, ◌/◌, ◌%◌, ◌^◌, ◌<◌, ◌≡◌, Bool, not, ◌&&◌, cond, List, length, get_or, set, eqb, ltb,
+}
 use Rattle.std.specs.Int.Bits.{bit_or, bit_xor}
 
 -- c is one of the set that the words hold

@@ -1,5 +1,8 @@
 -- What the words hold after a number is put in or taken out, and which is the lowest.
-use Rattle.std.specs.Prelude.{ℕ, zero, suc, ◌+◌, ◌-◌, ◌*◌, ◌/◌, ◌%◌, ◌^◌, ◌<◌, ◌≤◌, ◌≡◌, refl, Bool, false, ◌&&◌, ◌||◌, List, [], ◌∷◌, get_or, set, T, eqb, ltb}
+use Rattle.std.specs.Prelude.{
+  ℕ, zero, suc, ◌+◌, ◌*◌, ◌/◌, ◌%◌, ◌^◌, ◌<◌, ◌≤◌, ◌≡◌, refl, Bool, false, ◌&&◌, ◌||◌, List, [],
+  ◌∷◌, get_or, set, T, eqb, ltb,
+}
 use Rattle.std.proofs.Common.{sym, ap, ◌∙◌, length-set, lit<}
 use Rattle.std.proofs.Math.Path.{fun_ext}
 use Rattle.std.proofs.Math.Bool.{not, and-false}

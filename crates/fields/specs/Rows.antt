@@ -1,5 +1,8 @@
 -- Laws of lines over their bytes: the first field, the byte behind it, the lines behind that.
-use Rattle.std.specs.Prelude.{ℕ, zero, suc, ◌<◌, ◌≤◌, ◌⊎◌, ◌≡◌, refl, Bool, true, false, List, [], ◌∷◌, length, get_or, drop, eqb}
+use Rattle.std.specs.Prelude.{
+  ℕ, zero, suc, ◌<◌, ◌≤◌, ◌⊎◌, ◌≡◌, refl, Bool, true, false, List, [], ◌∷◌, length, get_or, drop,
+  eqb,
+}
 use Rattle.std.proofs.Common.{inl, inr, arith, eq-eqb, eqb-true}
 use Rattle.grammar.specs.Words.{tab, lf}
 use Rattle.grammar.specs.Rows.{rows, grown, parted, front}

@@ -1,5 +1,8 @@
 -- What a reader of fields promises of the line that begins at place a, and what a field then is.
-use Rattle.std.specs.Prelude.{ℕ, ◌+◌, ◌-◌, ◌<◌, ◌≤◌, ◌≡◌, refl, Bool, true, false, cond, List, [], ◌∷◌, length, get_or, take, drop, eqb}
+use Rattle.std.specs.Prelude.{
+  ℕ, ◌+◌, ◌-◌, ◌<◌, ◌≤◌, ◌≡◌, refl, Bool, true, false, cond, List, [], ◌∷◌, length, get_or, take,
+  drop, eqb,
+}
 use Rattle.std.proofs.Common.{ap, ◌∙◌, arith}
 use Rattle.grammar.specs.Words.{tab, lf}
 use Rattle.grammar.specs.Rows.{rows, row_at, word, front, field_at, word_end, stretch}

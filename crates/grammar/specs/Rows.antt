@@ -1,5 +1,7 @@
 -- A text as lines of fields, and places in it: SPECIFICATION, Text 2.
-use Rattle.std.specs.Prelude.{ℕ, suc, ◌+◌, ◌-◌, Bool, not, cond, List, [], ◌∷◌, length, get_or, take, drop, eqb}
+use Rattle.std.specs.Prelude.{
+  ℕ, suc, ◌+◌, ◌-◌, Bool, not, cond, List, [], ◌∷◌, length, get_or, take, drop, eqb,
+}
 use Rattle.grammar.specs.Words.{tab, lf, allowed}
 
 -- a byte more at the front of the first line's first field

@@ -1,5 +1,8 @@
 -- Judging call by call tells what the verdict tells.
-use Rattle.std.specs.Prelude.{◌≡◌, ◌≢◌, ◌↔◌, Bool, true, false, List, [], ◌∷◌, ℕ, zero, suc, ◌+◌, ◌≤◌, ◌<◌, get_or, take, drop, set}
+use Rattle.std.specs.Prelude.{
+  ◌≡◌, ◌≢◌, ◌↔◌, Bool, true, false, List, [], ◌∷◌, ℕ, zero, suc, ◌+◌, ◌≤◌, ◌<◌, get_or, take, drop,
+  set,
+}
 use Rattle.std.proofs.Math.Path.{sym, ap}
 use Rattle.std.proofs.Common.{◌∙◌, arith, length-set, drop_of_length-le, drop-cons}
 use Rattle.std.proofs.Math.Decide.{ℕ_discrete}

@@ -1,5 +1,7 @@
 -- The marks of a judged run as a set of calls: SPECIFICATION, Judging 1.
-use Rattle.std.specs.Prelude.{◌≡◌, Bool, true, false, ◌&&◌, List, ℕ, ◌<◌, eqb, ltb, length, get_or, set, replicate}
+use Rattle.std.specs.Prelude.{
+  ◌≡◌, Bool, true, false, ◌&&◌, List, ℕ, ◌<◌, eqb, ltb, length, get_or, set, replicate,
+}
 use Rattle.std.proofs.Math.Path.{fun_ext}
 use Rattle.std.proofs.Common.{arith, get_or-set_same, get_or-set_other}
 use Rattle.std.proofs.Math.Decide.{ℕ_discrete, dec_lt}

@@ -8,7 +8,9 @@ use lib.ListN.{get_or}
 use borrow.Author.Tests.{eq-eqb, ne_eqb}
 use Rattle.search.specs.Least.{least_from}
 use Rattle.grammar.specs.Rows.{word}
-use Rattle.grammar.specs.Draft.{Draft, unit_named, output_named, input_named, feed_of, add_feed, add_join}
+use Rattle.grammar.specs.Draft.{
+  Draft, unit_named, output_named, input_named, feed_of, add_feed, add_join,
+}
 use Rattle.grammar.specs.Lines.{refused, refuse, taken, feed_line, join_line}
 use Rattle.notes.specs.Layout.{outputs_base, inputs_base, sources_base}
 use Rattle.notes.specs.declared.Counts.{Counts}

@@ -1,38 +1,19 @@
 -- SPECIFICATION, Lister 7, a cycle, two refusals and a listing of the greatest length, computed.
-use Rattle.std.specs.Prelude.{ℕ, zero, suc, ◌+◌, ◌/◌, ◌%◌, ◌≡◌, refl, List, [], ◌∷◌, ◌++◌, length, replicate}
+use Rattle.std.specs.Prelude.{
+  ℕ, zero, suc, ◌+◌, ◌/◌, ◌%◌, ◌≡◌, refl, List, [], ◌∷◌, ◌++◌, length, replicate,
+}
 use Rattle.search.specs.Every.{every, some}
 use Rattle.search.specs.Least.{least_from}
 use Rattle.table.specs.Packed.{
-  units,
-  outputs,
-  inputs,
-  feeds,
-  output_owners,
-  input_owners,
-  kinds,
-  sources,
-  pairs as feed_bytes,
+  units, outputs, inputs, feeds, output_owners, input_owners, kinds, sources, pairs as feed_bytes,
   asked,
 }
 use Rattle.table.specs.Check.{
-  refuse as check_refuse,
-  counts_in,
-  all_below,
-  is_pair,
-  feed_known,
-  feed_again,
-  feeds_from,
-  wiring,
+  refuse as check_refuse, counts_in, all_below, is_pair, feed_known, feed_again, feeds_from, wiring,
   refusal,
 }
 use Rattle.calls.specs.Number.{call_in}
-use Rattle.calls.specs.Precedence.{
-  feeds_to,
-  has_kind,
-  by_kind,
-  before,
-  precedes,
-}
+use Rattle.calls.specs.Precedence.{feeds_to, has_kind, by_kind, before, precedes}
 use Rattle.orders.specs.Sort.{ready, next_call, sort, placed}
 use Rattle.orders.specs.Walk.{upto, lowest_before, walk, lowest_left, met}
 use Rattle.orders.specs.Turn.{lowest_of, lowest_place, shown}
@@ -42,43 +23,15 @@ use Rattle.grammar.specs.Quoted.{ascii}
 use Rattle.grammar.specs.Words.{same, allowed}
 use Rattle.grammar.specs.Rows.{grown, parted, rows, word, place, times, line_of, first_bad}
 use Rattle.grammar.specs.Draft.{
-  blank,
-  unit_named,
-  output_named,
-  input_named,
-  feed_of,
-  loose,
-  known,
-  add_unit,
-  add_output,
-  add_input,
-  add_feed,
-  joined,
-  add_join,
+  blank, unit_named, output_named, input_named, feed_of, loose, known, add_unit, add_output,
+  add_input, add_feed, joined, add_join,
 }
 use Rattle.grammar.specs.Lines.{
-  refused,
-  refuse,
-  taken,
-  is_name,
-  faulty,
-  kind_of,
-  unit_line,
-  out_line,
-  in_line,
-  feed_line,
-  join_line,
-  line,
+  refused, refuse, taken, is_name, faulty, kind_of, unit_line, out_line, in_line, feed_line,
+  join_line, line,
 }
 use Rattle.grammar.specs.Reading.{
-  stopped,
-  pairs,
-  packed,
-  ending,
-  lines_from,
-  version,
-  line_by_line,
-  reading,
+  stopped, pairs, packed, ending, lines_from, version, line_by_line, reading,
 }
 use Rattle.grammar.specs.Opening.{lines_of}
 use Rattle.pen.specs.Decimal.{spell, decimal}

@@ -1,7 +1,11 @@
 -- One declaration more: what becomes of the arrays and of the counts, and what it is in the draft.
-use Rattle.std.specs.Prelude.{ℕ, ◌+◌, ◌-◌, ◌*◌, ◌≤◌, ◌<◌, ◌≡◌, cond, List, length, get_or, set, eqb, ltb, leb}
+use Rattle.std.specs.Prelude.{
+  ℕ, ◌+◌, ◌-◌, ◌*◌, ◌≤◌, ◌<◌, ◌≡◌, cond, List, length, get_or, set, eqb, ltb, leb,
+}
 use Rattle.grammar.specs.Rows.{field_at}
-use Rattle.grammar.specs.Draft.{Draft, unjoined, add_unit, add_output, add_input, add_feed, add_join}
+use Rattle.grammar.specs.Draft.{
+  Draft, unjoined, add_unit, add_output, add_input, add_feed, add_join,
+}
 use Rattle.notes.specs.Layout.{outputs_base, inputs_base, lines_base, owners_base, kinds_base}
 use Rattle.notes.specs.Layout.{sources_base, feeds_base, fed_base, places_size, slots_size}
 use Rattle.notes.specs.Listed.{listed}

@@ -1,6 +1,12 @@
 -- A cycle begun at another of its places is a cycle; begun at its lowest call, it begins with it.
-use Rattle.std.specs.Prelude.{◌≡◌, refl, ◌⊎◌, Bool, List, [], ◌∷◌, ℕ, zero, suc, ◌+◌, ◌-◌, ◌≤◌, ◌<◌, T, length, get_or, take, drop}
-use Rattle.std.proofs.Common.{sym, ◌∙◌, inl, inr, arith, length-append, length-take, length-drop, get_or-take, get_or-drop, get_or-append-add}
+use Rattle.std.specs.Prelude.{
+  ◌≡◌, refl, ◌⊎◌, Bool, List, [], ◌∷◌, ℕ, zero, suc, ◌+◌, ◌-◌, ◌≤◌, ◌<◌, T, length, get_or, take,
+  drop,
+}
+use Rattle.std.proofs.Common.{
+  sym, ◌∙◌, inl, inr, arith, length-append, length-take, length-drop, get_or-take, get_or-drop,
+  get_or-append-add,
+}
 use Rattle.std.proofs.Math.Decide.{ℕ_discrete, dec_lt, dec_le}
 use Rattle.std.proofs.Math.Dec.{eqb, eqb→eq, eqb_refl}
 use Rattle.std.proofs.Math.ListN.{get_or-append}

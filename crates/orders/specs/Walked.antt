@@ -1,5 +1,7 @@
 -- One visit of the backward walk, and that it stays among calls that remain.
-use Rattle.std.specs.Prelude.{◌≡◌, Bool, List, [], ◌∷◌, ℕ, zero, suc, ◌<◌, T, eqb, length, get_or, take}
+use Rattle.std.specs.Prelude.{
+  ◌≡◌, Bool, List, [], ◌∷◌, ℕ, zero, suc, ◌<◌, T, eqb, length, get_or, take,
+}
 use Rattle.std.proofs.Common.{sym, ap, arith}
 use Rattle.std.proofs.Math.Bool.{not}
 use Rattle.std.proofs.Math.Decide.{dec_lt}

@@ -1,6 +1,12 @@
 -- Bytes that fit, put one after the other: what callers cite.
-use Rattle.std.specs.Prelude.{ℕ, zero, suc, ◌+◌, ◌/◌, ◌%◌, ◌^◌, ◌≤◌, ◌<◌, ◌≡◌, refl, Bool, true, false, cond, List, [], ◌∷◌, ◌++◌, length, take, drop, leb, ltb}
-use Rattle.std.proofs.Common.{sym, ap, ◌∙◌, append_assoc, add-zero, zero-add, div-lt_iff_lt-mul, pow-suc, arith, length-append, length-drop, take-append-drop, length-take-le, take_at, drop_at, drop-drop, le-leb, ltb-false}
+use Rattle.std.specs.Prelude.{
+  ℕ, zero, suc, ◌+◌, ◌/◌, ◌%◌, ◌^◌, ◌≤◌, ◌<◌, ◌≡◌, refl, Bool, true, false, cond, List, [], ◌∷◌,
+  ◌++◌, length, take, drop, leb, ltb,
+}
+use Rattle.std.proofs.Common.{
+  sym, ap, ◌∙◌, append_assoc, add-zero, zero-add, div-lt_iff_lt-mul, pow-suc, arith, length-append,
+  length-drop, take-append-drop, length-take-le, take_at, drop_at, drop-drop, le-leb, ltb-false,
+}
 use Rattle.std.proofs.Math.Decide.{dec_le}
 use Rattle.std.proofs.lemmas.Bool.{lt-leb}
 use Rattle.pen.specs.Put.{over, fits, wrote, behind, Put}

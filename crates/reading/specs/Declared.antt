@@ -1,5 +1,7 @@
 -- What the lines that are taken declare, in line order, with numbers from the draft they end at.
-use Rattle.std.specs.Prelude.{ℕ, ◌<◌, ◌≡◌, refl, Bool, not, ◌&&◌, List, [], ◌∷◌, ◌++◌, map, length, T, eqb}
+use Rattle.std.specs.Prelude.{
+  ℕ, ◌<◌, ◌≡◌, refl, Bool, not, ◌&&◌, List, [], ◌∷◌, ◌++◌, map, length, T, eqb,
+}
 use Rattle.std.proofs.Common.{ap, ◌∙◌, append-nil}
 use Rattle.std.proofs.Math.Path.{sym}
 use Rattle.std.proofs.lemmas.List.{map-append, length-map}
@@ -11,7 +13,9 @@ use Rattle.grammar.specs.Same.{same_self}
 use Rattle.grammar.specs.Rows.{word, place}
 use Rattle.grammar.specs.Opening.{Row, lines_of}
 use Rattle.grammar.specs.Draft.{Draft, Output, Input, Feed, no_input, unit_named, output_named}
-use Rattle.grammar.specs.Draft.{input_named, add_unit, add_output, add_input, add_feed, add_join, joined}
+use Rattle.grammar.specs.Draft.{
+  input_named, add_unit, add_output, add_input, add_feed, add_join, joined,
+}
 use Rattle.grammar.specs.Lines.{kind_of}
 use Rattle.reading.specs.Takes.{takes-unit, takes-output, takes-input}
 use Rattle.reading.specs.Takes.{takes-feed, takes-join, Takes, Runs, ends, goes_on}

@@ -1,7 +1,12 @@
 -- The source of each input: the output of the first line that joins the input.
-use Rattle.std.specs.Prelude.{ℕ, zero, suc, ◌<◌, ◌≤◌, ◌≡◌, refl, Bool, true, false, not, cond, List, [], ◌∷◌, ◌++◌, map, length, set, T, eqb}
+use Rattle.std.specs.Prelude.{
+  ℕ, zero, suc, ◌<◌, ◌≤◌, ◌≡◌, refl, Bool, true, false, not, cond, List, [], ◌∷◌, ◌++◌, map, length,
+  set, T, eqb,
+}
 use Rattle.std.proofs.Math.Path.{ap}
-use Rattle.std.proofs.Common.{sym, ◌∙◌, arith, length-append, get_or-set_same, get_or-set_other, eqb-true, eq-eqb, ne_eqb}
+use Rattle.std.proofs.Common.{
+  sym, ◌∙◌, arith, length-append, get_or-set_same, get_or-set_other, eqb-true, eq-eqb, ne_eqb,
+}
 use Rattle.std.proofs.lemmas.List.{map-append, length-map}
 use Rattle.std.proofs.Math.Decide.{ℕ_discrete}
 use Rattle.std.proofs.Math.ListN.{get_or}
@@ -12,7 +17,9 @@ use Rattle.grammar.specs.Same.{same_self}
 use Rattle.grammar.specs.Rows.{word}
 use Rattle.grammar.specs.Opening.{Row, lines_of}
 use Rattle.grammar.specs.Draft.{Draft, Input, unjoined, no_input, unit_named, output_named}
-use Rattle.grammar.specs.Draft.{input_named, add_unit, add_output, add_input, add_feed, add_join, joined}
+use Rattle.grammar.specs.Draft.{
+  input_named, add_unit, add_output, add_input, add_feed, add_join, joined,
+}
 use Rattle.reading.specs.Takes.{takes-unit, takes-output, takes-input}
 use Rattle.reading.specs.Takes.{takes-feed, takes-join, Takes, Runs, ends, goes_on}
 use Rattle.reading.specs.Parts.{map_in}

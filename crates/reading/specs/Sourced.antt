@@ -1,5 +1,7 @@
 -- The source of each input stands in the line that joins it; an input that no line joins has none.
-use Rattle.std.specs.Prelude.{ℕ, suc, ◌<◌, ◌≤◌, ◌≡◌, refl, Bool, true, false, cond, ◌&&◌, length, T, eqb}
+use Rattle.std.specs.Prelude.{
+  ℕ, suc, ◌<◌, ◌≤◌, ◌≡◌, refl, Bool, true, false, cond, ◌&&◌, length, T, eqb,
+}
 use Rattle.std.proofs.Math.Path.{ap}
 use Rattle.std.proofs.Common.{sym, ◌∙◌, subst, arith, ext_get_or, eqb→eq}
 use mathlib.Core.List.{List, [], ◌∷◌, map}

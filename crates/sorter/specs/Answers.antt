@@ -1,5 +1,7 @@
 -- What is answered, case by case.
-use Rattle.std.specs.Prelude.{◌≡◌, refl, Bool, true, false, cond, List, [], ℕ, ◌≤◌, ◌<◌, eqb, leb, length}
+use Rattle.std.specs.Prelude.{
+  ◌≡◌, refl, Bool, true, false, cond, List, [], ℕ, ◌≤◌, ◌<◌, eqb, leb, length,
+}
 use Rattle.std.proofs.Common.{sym}
 use borrow.Author.Tests.{le-leb, lt-leb, eqb-true}
 use Rattle.search.specs.Truth.{is_true, is_false, eq_true, eq_false}

@@ -1,5 +1,7 @@
 -- What carries demand 3: between two calls the calls done hold new values and the others old ones.
-use Rattle.std.specs.Prelude.{◌≡◌, refl, ◌≢◌, Bool, not, cond, List, ◌∷◌, ℕ, zero, suc, ◌+◌, ◌≤◌, ◌<◌, T, eqb}
+use Rattle.std.specs.Prelude.{
+  ◌≡◌, refl, ◌≢◌, Bool, not, cond, List, ◌∷◌, ℕ, zero, suc, ◌+◌, ◌≤◌, ◌<◌, T, eqb,
+}
 use Rattle.std.proofs.Math.Path.{sym, ap}
 use Rattle.std.proofs.Common.{ap₂, ◌∙◌, arith, eqb→eq}
 use Rattle.std.proofs.Math.Bool.{true, false}

@@ -1,9 +1,6 @@
 -- The words before word i hold none; the zeros of the first that holds one tell its place.
-use native.Mathlib.Omega.{arith}
 use Prim.Native.Nat.{◌*◌, ◌-◌, ◌≤◌}
-use lib.ListN.{get_or}
-use lib.Count.{trailing_le}
-use Rattle.bits.specs.Laws.{Clear, clear_starts, clear_on, clear-found, clear-ends}
+use Rattle.bits.specs.Laws.{Clear}
 use Rattle.bits.proofs.lowest.Given as goal
 
 abbrev pub invariant-loop-i : goal.invariant-loop-i

@@ -1,9 +1,7 @@
 -- The loop keeps the places noted and those to come from place a on (`Noting`).
 use Prim.Native.Nat.{◌-◌}
 use lib.ListN.{length}
-use native.Mathlib.Omega.{arith}
-use Rattle.declarations.proofs.Noting.{Noting, noting_starts, noting_on, noting_ends}
-use Rattle.declarations.proofs.Noting.{noting_full, line-further, line-inside}
+use Rattle.declarations.proofs.Noting.{Noting}
 use Rattle.declarations.proofs.note_lines.Given as goal
 
 abbrev pub invariant-loop-n : goal.invariant-loop-n

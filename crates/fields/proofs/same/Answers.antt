@@ -1,9 +1,7 @@
 -- The loop keeps that the rest of the one is compared with the rest of the other.
 use borrow.Author.Rules.{rules}
-use Prim.Native.Nat.{◌≤◌, ◌-◌}
-use mathlib.Core.Path.{◌≡◌, sym, ◌∙◌}
-use lib.ListN.{length, drop}
-use Rattle.grammar.specs.Words.{same as same_bytes}
+use Prim.Native.Nat.{◌-◌}
+use mathlib.Core.Path.{sym, ◌∙◌}
 use Rattle.fields.proofs.Bytes.{same_lengths, same-on, same_stop, same_end}
 use Rattle.fields.proofs.same.Goals as goal
 

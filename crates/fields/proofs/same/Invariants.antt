@@ -1,9 +1,8 @@
 -- The loop keeps that the rest of the one is compared with the rest of the other.
 use Prim.Native.Nat.{◌≤◌, ◌-◌}
-use mathlib.Core.Path.{◌≡◌, sym, ◌∙◌}
+use mathlib.Core.Path.{◌≡◌}
 use lib.ListN.{length, drop}
 use Rattle.grammar.specs.Words.{same as same_bytes}
-use Rattle.fields.proofs.Bytes.{same_lengths, same-on, same_stop, same_end}
 use Rattle.fields.proofs.same.Given as goal
 
 abbrev pub invariant-loop-i : goal.invariant-loop-i

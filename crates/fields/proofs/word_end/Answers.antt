@@ -1,8 +1,6 @@
 -- The loop keeps that the field's end is the same from place i on.
 use Prim.Native.Nat.{◌-◌}
-use mathlib.Core.Path.{◌≡◌, refl, sym, ◌∙◌}
-use lib.ListN.{length}
-use Rattle.grammar.specs.Rows.{word_end}
+use mathlib.Core.Path.{refl, sym, ◌∙◌}
 use Rattle.fields.proofs.Bytes.{word_on, word-lf, word-tab, word_none}
 use Rattle.fields.proofs.word_end.Goals as goal
 

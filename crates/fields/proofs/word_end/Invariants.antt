@@ -1,9 +1,8 @@
 -- The loop keeps that the field's end is the same from place i on.
 use Prim.Native.Nat.{◌-◌}
-use mathlib.Core.Path.{◌≡◌, refl, sym, ◌∙◌}
+use mathlib.Core.Path.{◌≡◌}
 use lib.ListN.{length}
 use Rattle.grammar.specs.Rows.{word_end}
-use Rattle.fields.proofs.Bytes.{word_on, word-lf, word-tab, word_none}
 use Rattle.fields.proofs.word_end.Given as goal
 
 abbrev pub invariant-loop-i : goal.invariant-loop-i

@@ -1,13 +1,11 @@
 -- the verdict on the whole order is that on what is left of it, from the marks so far
 use Prim.Native.Nat.{◌≤◌, ◌-◌}
-use mathlib.Core.Path.{◌≡◌, refl, sym, ◌∙◌}
-use lib.ListN.{length, drop, length-set}
+use mathlib.Core.Path.{◌≡◌}
+use lib.ListN.{length, drop}
 use Rattle.search.specs.Sets.{none}
 use Rattle.table.specs.Packed.{shape_of}
 use Rattle.judging.specs.Verdict.{verdict_from}
 use Rattle.judge.specs.Marks.{marks}
-use Rattle.judging.specs.Demand.{taken-small}
-use Rattle.judge.proofs.Turns.{byte_fits, turn_starts, turn_on, turn_off, turn-ends}
 use Rattle.judge.proofs.in_turn.Given as goal
 
 abbrev pub invariant-loop-place : goal.invariant-loop-place

@@ -1,8 +1,6 @@
 -- The loop keeps that the names below lo are before the word and those from hi on after it.
-use Prim.Native.Nat.{◌+◌, ◌-◌, ◌/◌}
-use native.Mathlib.Omega.{arith}
+use Prim.Native.Nat.{◌-◌}
 use Rattle.notes.specs.Ranks.{Between}
-use Rattle.notes.proofs.Ranks.{all_open, middle, upper_half, lower_half, spot-taken, spot-free}
 use Rattle.names.proofs.seek.Given as goal
 
 abbrev pub invariant-loop-lo : goal.invariant-loop-lo

@@ -1,7 +1,7 @@
 -- The loop keeps which slots have moved.
 use Prim.Native.Nat.{◌-◌}
 use native.Mathlib.Omega.{arith}
-use Rattle.notes.proofs.Putting.{Moving, none-moved, one-moved, all_moved, put_in_is}
+use Rattle.notes.proofs.Putting.{none-moved, one-moved, all_moved, put_in_is}
 use Rattle.notes.proofs.put_in.Goals as goal
 
 pub loop-i-init : goal.loop-i-init

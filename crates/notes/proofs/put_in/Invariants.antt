@@ -1,7 +1,6 @@
 -- The loop keeps which slots have moved.
 use Prim.Native.Nat.{◌-◌}
-use native.Mathlib.Omega.{arith}
-use Rattle.notes.proofs.Putting.{Moving, none-moved, one-moved, all_moved, put_in_is}
+use Rattle.notes.proofs.Putting.{Moving}
 use Rattle.notes.proofs.put_in.Given as goal
 
 abbrev pub invariant-loop-i : goal.invariant-loop-i

@@ -1,5 +1,5 @@
 -- The loop keeps the digits that would have been stored (`Counted`).
-use Rattle.pen.proofs.Digits.{Counted, counted_starts, counted-few, counted_on, counted-ends}
+use Rattle.pen.proofs.Digits.{counted_starts, counted-few, counted_on, counted-ends}
 use native.Mathlib.Omega.{arith}
 use Rattle.pen.proofs.digit_count.Goals as goal
 

@@ -1,11 +1,7 @@
 -- The loop keeps the first i bytes written over the buffer (`Putting`).
 use Prim.Native.Nat.{◌-◌}
 use lib.ListN.{length}
-use mathlib.Core.Path.{sym, ◌∙◌}
-use borrow.Author.Tests.{not-true, not-false, leb-true, leb-false}
-use native.Mathlib.Omega.{arith}
-use Rattle.pen.specs.Chain.{put-nothing}
-use Rattle.pen.proofs.Putting.{Putting, putting_starts, putting_on, putting_ends}
+use Rattle.pen.proofs.Putting.{Putting}
 use Rattle.pen.proofs.put.Given as goal
 
 abbrev pub invariant-loop-i : goal.invariant-loop-i

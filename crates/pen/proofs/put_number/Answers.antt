@@ -1,5 +1,5 @@
 -- The loop keeps the digits behind place i stored (`Stored`); what it stored is put.
-use Rattle.pen.proofs.Digits.{Stored, stored_starts, stored_on, stored_ends, spelling_some}
+use Rattle.pen.proofs.Digits.{stored_starts, stored_on, stored_ends, spelling_some}
 use Rattle.pen.specs.Chain.{put-long}
 use Prim.Native.Nat.{◌+◌}
 use lib.ListN.{length-set}

@@ -1,10 +1,5 @@
 -- The loop keeps the digits behind place i stored (`Stored`); what it stored is put.
-use Rattle.pen.proofs.Digits.{Stored, stored_starts, stored_on, stored_ends, spelling_some}
-use Rattle.pen.specs.Chain.{put-long}
-use Prim.Native.Nat.{◌+◌}
-use lib.ListN.{length-set}
-use native.Mathlib.Omega.{arith}
-use mathlib.Core.Path.{refl}
+use Rattle.pen.proofs.Digits.{Stored}
 use Rattle.pen.proofs.put_number.Given as goal
 
 abbrev pub invariant-loop-m : goal.invariant-loop-m

@@ -1,16 +1,9 @@
 -- The loop keeps that every byte passed over is allowed.
 use Prim.Native.Nat.{ℕ, ◌-◌, ◌<◌, ◌≤◌}
-use mathlib.Core.Path.{sym, ◌∙◌}
 use mathlib.Core.Bool.{not}
-use native.Mathlib.Omega.{arith}
-use borrow.Author.Count.{below_more}
-use borrow.Author.Tests.{not-true, not-false}
 use lib.ListN.{length, get_or}
 use lib.Dec.{T}
-use Rattle.search.specs.Least.{found, not_found}
-use Rattle.search.specs.Truth.{fails}
 use Rattle.grammar.specs.Words.{allowed}
-use Rattle.scan.proofs.Scanning.{bad_least}
 use Rattle.scan.proofs.first_bad.Given as goal
 
 abbrev pub invariant-loop-i : goal.invariant-loop-i

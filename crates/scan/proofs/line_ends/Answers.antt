@@ -1,10 +1,7 @@
 -- The loop keeps the count of LFs among the bytes passed over.
-use Prim.Native.Nat.{◌-◌, ◌≤◌}
-use mathlib.Core.Path.{◌≡◌, refl, ◌∙◌}
-use mathlib.Core.Logic.{⊎_elim}
+use Prim.Native.Nat.{◌-◌}
+use mathlib.Core.Path.{refl, ◌∙◌}
 use native.Mathlib.Omega.{arith}
-use lib.ListN.{length, take}
-use Rattle.grammar.specs.Words.{lf}
 use Rattle.grammar.specs.Rows.{times}
 use Rattle.scan.proofs.Scanning.{counts, passes, times-all}
 use Rattle.scan.proofs.line_ends.Goals as goal

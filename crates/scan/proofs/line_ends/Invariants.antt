@@ -1,12 +1,9 @@
 -- The loop keeps the count of LFs among the bytes passed over.
 use Prim.Native.Nat.{◌-◌, ◌≤◌}
-use mathlib.Core.Path.{◌≡◌, refl, ◌∙◌}
-use mathlib.Core.Logic.{⊎_elim}
-use native.Mathlib.Omega.{arith}
+use mathlib.Core.Path.{◌≡◌}
 use lib.ListN.{length, take}
 use Rattle.grammar.specs.Words.{lf}
 use Rattle.grammar.specs.Rows.{times}
-use Rattle.scan.proofs.Scanning.{counts, passes, times-all}
 use Rattle.scan.proofs.line_ends.Given as goal
 
 abbrev pub invariant-loop-i : goal.invariant-loop-i

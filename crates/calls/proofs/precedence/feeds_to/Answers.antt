@@ -1,10 +1,10 @@
 -- No pair passed so far feeds input x to output y.
 use borrow.Author.Rules.{rules}
-use Prim.Native.Nat.{◌≤◌, ◌-◌}
+use Prim.Native.Nat.{◌-◌}
 use native.Mathlib.Omega.{arith}
 use borrow.Author.Count.{below_more}
 use Rattle.search.specs.Truth.{says, denies}
-use Rattle.calls.proofs.Laws.{Unfed, feed-of, fed, unfed}
+use Rattle.calls.proofs.Laws.{feed-of, fed, unfed}
 use Rattle.calls.proofs.precedence.feeds_to.Goals as goal
 
 pub loop-k-init : goal.loop-k-init

@@ -1,9 +1,6 @@
 -- No pair passed so far feeds input x to output y.
 use Prim.Native.Nat.{◌≤◌, ◌-◌}
-use native.Mathlib.Omega.{arith}
-use borrow.Author.Count.{below_more}
-use Rattle.search.specs.Truth.{says, denies}
-use Rattle.calls.proofs.Laws.{Unfed, feed-of, fed, unfed}
+use Rattle.calls.proofs.Laws.{Unfed}
 use Rattle.calls.proofs.precedence.feeds_to.Given as goal
 
 abbrev pub invariant-loop-k : goal.invariant-loop-k

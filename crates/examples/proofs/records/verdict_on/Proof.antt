@@ -28,7 +28,9 @@ use denote.ArrayMemory.{Array-apart, Array-whole}
 use denote.Builtin.{u8, ArrayOf}
 use denote.Lend.{lends_shr_slice}
 use denote.Ref.{Bor}
-use denote.Slice.{slice_ty, slice_val, ShrSlice, Room, shr_slice_vals, shr_slice_Tells, shr_slice_copy}
+use denote.Slice.{
+  slice_ty, slice_val, ShrSlice, Room, shr_slice_vals, shr_slice_Tells, shr_slice_copy,
+}
 use denote.Signature.{plain}
 use denote.Steps.{nothing, peeks, heard}
 use denote.Struct.Laws as LL

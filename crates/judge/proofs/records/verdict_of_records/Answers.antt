@@ -4,13 +4,7 @@ use mathlib.Core.Path.{sym, ◌∙◌}
 use native.Mathlib.Omega.{arith}
 use Rattle.judge.proofs.Turns.{checked-number}
 use Rattle.judge.proofs.Walked.{
-  marked_starts,
-  marked_on,
-  carries_starts,
-  carries_on,
-  carries_off,
-  carries_ends,
-  unsound-refused,
+  marked_starts, marked_on, carries_starts, carries_on, carries_off, carries_ends, unsound-refused,
 }
 use Rattle.judge.proofs.records.verdict_of_records.Goals as goal
 

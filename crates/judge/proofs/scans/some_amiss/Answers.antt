@@ -1,14 +1,10 @@
 -- no input passed so far stands in the way
 use borrow.Author.Rules.{rules}
-use Prim.Native.Nat.{ℕ, ◌≤◌, ◌<◌, ◌-◌}
-use mathlib.Core.Bool.{not}
+use Prim.Native.Nat.{◌-◌}
 use native.Mathlib.Omega.{arith}
-use lib.Dec.{T}
-use lib.ListN.{length}
 use borrow.Author.Count.{below_more}
 use Rattle.search.specs.Truth.{says, denies}
 use Rattle.search.specs.Every.{some-yes, some_no}
-use Rattle.judge.specs.Scans.{amiss_at}
 use Rattle.judge.proofs.scans.some_amiss.Goals as goal
 
 pub loop-x-init : goal.loop-x-init

@@ -1,12 +1,8 @@
 -- no input passed so far stands in the way
 use Prim.Native.Nat.{ℕ, ◌≤◌, ◌<◌, ◌-◌}
 use mathlib.Core.Bool.{not}
-use native.Mathlib.Omega.{arith}
 use lib.Dec.{T}
 use lib.ListN.{length}
-use borrow.Author.Count.{below_more}
-use Rattle.search.specs.Truth.{says, denies}
-use Rattle.search.specs.Every.{some-yes, some_no}
 use Rattle.judge.specs.Scans.{amiss_at}
 use Rattle.judge.proofs.scans.some_amiss.Given as goal
 

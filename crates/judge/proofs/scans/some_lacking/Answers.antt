@@ -1,12 +1,9 @@
 -- no pair passed so far feeds the output from an input that is not set
 use borrow.Author.Rules.{rules}
-use Prim.Native.Nat.{ℕ, ◌≤◌, ◌<◌, ◌-◌}
-use mathlib.Core.Bool.{not}
+use Prim.Native.Nat.{◌-◌}
 use native.Mathlib.Omega.{arith}
-use lib.Dec.{T}
 use Rattle.search.specs.Truth.{says, denies}
 use Rattle.search.specs.Every.{some-yes, some_no}
-use Rattle.judge.specs.Scans.{lacking_at}
 use Rattle.judge.proofs.Scanning.{two-more, some-last}
 use Rattle.judge.proofs.scans.some_lacking.Goals as goal
 

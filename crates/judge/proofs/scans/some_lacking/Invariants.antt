@@ -1,12 +1,8 @@
 -- no pair passed so far feeds the output from an input that is not set
 use Prim.Native.Nat.{ℕ, ◌≤◌, ◌<◌, ◌-◌}
 use mathlib.Core.Bool.{not}
-use native.Mathlib.Omega.{arith}
 use lib.Dec.{T}
-use Rattle.search.specs.Truth.{says, denies}
-use Rattle.search.specs.Every.{some-yes, some_no}
 use Rattle.judge.specs.Scans.{lacking_at}
-use Rattle.judge.proofs.Scanning.{two-more, some-last}
 use Rattle.judge.proofs.scans.some_lacking.Given as goal
 
 abbrev pub invariant-loop-k : goal.invariant-loop-k

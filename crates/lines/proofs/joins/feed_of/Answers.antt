@@ -1,16 +1,14 @@
 -- The loop keeps that no feed passed over is the one sought.
-use Prim.Native.Nat.{ℕ, ◌-◌, ◌<◌, ◌≤◌}
-use mathlib.Core.Bool.{not}
-use mathlib.Core.Logic.{⊎_elim}
+use Prim.Native.Nat.{◌-◌}
 use native.Mathlib.Omega.{arith}
 use borrow.Author.Count.{below_more}
-use lib.Dec.{T}
 use Rattle.search.specs.Least.{found, not_found}
-use Rattle.notes.specs.Notes.{is_fed}
 use Rattle.notes.proofs.Slots.{fed-here, other-input, other-output}
 use borrow.Author.Tests.{eqb-true, eqb-false}
 use Rattle.lines.proofs.joins.feed_of.Goals as goal
-use Rattle.lines.proofs.joins.feed_of.Goals.{else-slots-k-via-else-slots-k, else-slots-k-via-then-slots-k+else-slots-k-2}
+use Rattle.lines.proofs.joins.feed_of.Goals.{
+  else-slots-k-via-else-slots-k, else-slots-k-via-then-slots-k+else-slots-k-2,
+}
 
 pub loop-k-init : goal.loop-k-init
 loop-k-init c = (omega arith, λ k h. absurd (omega arith))

@@ -1,8 +1,7 @@
 -- The loop keeps that the fields passed over are names.
-use Prim.Native.Nat.{◌-◌, ◌+◌, ◌≤◌}
-use mathlib.Core.Path.{◌≡◌, refl}
+use Prim.Native.Nat.{◌-◌, ◌+◌}
+use mathlib.Core.Path.{refl}
 use native.Mathlib.Omega.{arith}
-use Rattle.grammar.specs.Rows.{row_at}
 use Rattle.grammar.specs.Lines.{faulty}
 use Rattle.lines.proofs.Counted.{faulty-first, faulty_on, no_name_empty}
 use Rattle.lines.proofs.Counted.{no_name_long, a_name, field_size, faulty-none}

@@ -1,11 +1,8 @@
 -- The loop keeps that the fields passed over are names.
-use Prim.Native.Nat.{◌-◌, ◌+◌, ◌≤◌}
-use mathlib.Core.Path.{◌≡◌, refl}
-use native.Mathlib.Omega.{arith}
+use Prim.Native.Nat.{◌-◌, ◌≤◌}
+use mathlib.Core.Path.{◌≡◌}
 use Rattle.grammar.specs.Rows.{row_at}
 use Rattle.grammar.specs.Lines.{faulty}
-use Rattle.lines.proofs.Counted.{faulty-first, faulty_on, no_name_empty}
-use Rattle.lines.proofs.Counted.{no_name_long, a_name, field_size, faulty-none}
 use Rattle.lines.proofs.shape.faulty.Given as goal
 
 abbrev pub invariant-loop-i : goal.invariant-loop-i

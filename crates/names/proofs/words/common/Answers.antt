@@ -1,12 +1,8 @@
 -- The loop keeps that the bytes passed over are the same in both.
-use Prim.Native.Nat.{ℕ, ◌-◌, ◌≤◌, ◌<◌}
-use mathlib.Core.Path.{◌≡◌}
-use mathlib.Core.Bool.{not}
+use Prim.Native.Nat.{◌-◌}
 use native.Mathlib.Omega.{arith}
 use borrow.Author.Count.{below_more}
-use lib.Dec.{T}
 use Rattle.search.specs.Least.{found, not_found}
-use Rattle.names.specs.Alike.{differs, shorter}
 use Rattle.names.proofs.Stretches.{shorter-first, shorter-second, alike_at, differ-at}
 use Rattle.names.proofs.words.common.Goals as goal
 

@@ -2,12 +2,8 @@
 use Prim.Native.Nat.{ℕ, ◌-◌, ◌≤◌, ◌<◌}
 use mathlib.Core.Path.{◌≡◌}
 use mathlib.Core.Bool.{not}
-use native.Mathlib.Omega.{arith}
-use borrow.Author.Count.{below_more}
 use lib.Dec.{T}
-use Rattle.search.specs.Least.{found, not_found}
 use Rattle.names.specs.Alike.{differs, shorter}
-use Rattle.names.proofs.Stretches.{shorter-first, shorter-second, alike_at, differ-at}
 use Rattle.names.proofs.words.common.Given as goal
 
 abbrev pub invariant-loop-i : goal.invariant-loop-i

@@ -1,15 +1,10 @@
 -- A block that is noted is lowered as a part of its own; another holds no feed of the input.
 use Rattle.calls.specs.Hits.{hits}
-use native.Mathlib.Omega.{arith}
-use mathlib.Core.Path.{◌∙◌}
-use mathlib.Core.Logic.{⊎_elim}
 use Prim.Native.Nat.{◌+◌, ◌*◌, ◌≤◌}
 use Rattle.placing.specs.Blocks.{Within}
 use Rattle.placing.specs.Less.{is_input, fed}
 use Rattle.placing.specs.Lowered.{Lowered}
-use Rattle.placing.proofs.Noted.{within-half}
-use Rattle.placing.proofs.Blocked.{reach, feeds-long, feeds-fit, feeds-room, feeds_on}
-use Rattle.placing.proofs.Blocked.{blocks_start, blocks_miss, blocks_end}
+use Rattle.placing.proofs.Blocked.{reach}
 use Rattle.placing.proofs.blocks.lower_feeds.Given as goal
 
 abbrev pub invariant-loop-left : goal.invariant-loop-left

@@ -1,16 +1,11 @@
 -- A block that is noted is lowered as a part of its own; one that is not holds no key.
 use Rattle.calls.specs.Hits.{nth, hits}
-use native.Mathlib.Omega.{arith}
-use mathlib.Core.Path.{◌∙◌}
-use mathlib.Core.Logic.{⊎_elim}
 use Prim.Native.Nat.{◌+◌, ◌*◌, ◌≤◌}
 use lib.ListN.{length}
 use Rattle.placing.specs.Blocks.{Within}
 use Rattle.placing.specs.Less.{is_key}
 use Rattle.placing.specs.Lowered.{Lowered}
-use Rattle.placing.proofs.Noted.{within-half}
-use Rattle.placing.proofs.Blocked.{reach, row_fits, row_room, row_on}
-use Rattle.placing.proofs.Blocked.{blocks_start, blocks_miss, blocks_end}
+use Rattle.placing.proofs.Blocked.{reach}
 use Rattle.placing.proofs.blocks.lower_row.Given as goal
 
 abbrev pub invariant-loop-left : goal.invariant-loop-left

@@ -1,12 +1,10 @@
 -- Each turn notes one block more (`noting_on`); its bit moves on after 24 (`stands-next`).
 use borrow.Author.Rules.{rules}
 use native.Mathlib.Omega.{arith}
-use mathlib.Core.Logic.{⊎_elim}
-use Prim.Native.Nat.{◌-◌, ◌≤◌, ◌<◌}
+use Prim.Native.Nat.{◌-◌, ◌<◌}
 use lib.ListN.{length}
-use Rattle.placing.specs.Blocks.{Noting}
 use Rattle.placing.specs.Less.{called}
-use Rattle.placing.proofs.Noted.{Stands, stands_starts, stands-next, stands_on}
+use Rattle.placing.proofs.Noted.{stands_starts, stands-next, stands_on}
 use Rattle.placing.proofs.Noted.{noting_starts, noting_on, noting_all}
 use Rattle.placing.proofs.blocks.note.Goals as goal
 use Rattle.placing.proofs.blocks.note.Goals.{else-left-eq0, then-left-eq0}

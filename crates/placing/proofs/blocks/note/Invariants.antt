@@ -1,12 +1,9 @@
 -- Each turn notes one block more (`noting_on`); its bit moves on after 24 (`stands-next`).
-use native.Mathlib.Omega.{arith}
-use mathlib.Core.Logic.{⊎_elim}
-use Prim.Native.Nat.{◌-◌, ◌≤◌, ◌<◌}
+use Prim.Native.Nat.{◌-◌, ◌≤◌}
 use lib.ListN.{length}
 use Rattle.placing.specs.Blocks.{Noting}
 use Rattle.placing.specs.Less.{called}
-use Rattle.placing.proofs.Noted.{Stands, stands_starts, stands-next, stands_on}
-use Rattle.placing.proofs.Noted.{noting_starts, noting_on, noting_all}
+use Rattle.placing.proofs.Noted.{Stands}
 use Rattle.placing.proofs.blocks.note.Given as goal
 
 abbrev pub invariant-loop-i : goal.invariant-loop-i

@@ -1,13 +1,7 @@
 -- Each turn notes one block more (`noting_on`).
-use native.Mathlib.Omega.{arith}
-use mathlib.Core.Path.{subst}
-use Prim.Native.Nat.{◌+◌, ◌-◌, ◌/◌, ◌^◌, ◌≤◌, ◌<◌}
-use native.Mathlib.Nat.{zero-add}
-use lib.Bits.{bit_or}
-use lib.ListN.{length, get_or, set}
+use Prim.Native.Nat.{◌-◌, ◌≤◌}
 use Rattle.placing.specs.Blocks.{Noting}
 use Rattle.table.specs.Packed.{pair_input}
-use Rattle.placing.proofs.Noted.{byte-bit, noting_starts, noting_on, noting_all}
 use Rattle.placing.proofs.blocks.note_fed.Given as goal
 
 abbrev pub invariant-loop-k : goal.invariant-loop-k

@@ -1,16 +1,17 @@
 -- A turn lowers one count or none: `lowers_hit` and `lowers_miss` carry the loop.
 use borrow.Author.Rules.{rules}
-use Rattle.calls.specs.Hits.{nth, hits}
+use Rattle.calls.specs.Hits.{nth}
 use native.Mathlib.Omega.{arith}
 use mathlib.Core.Path.{◌∙◌}
-use Prim.Native.Nat.{◌-◌, ◌≤◌}
+use Prim.Native.Nat.{◌-◌}
 use lib.ListN.{length}
 use Rattle.placing.specs.Less.{are_keys}
-use Rattle.placing.specs.Lowered.{Lowered}
 use Rattle.placing.proofs.Hits.{both_keys, first-other, second-other, lower_some}
 use Rattle.placing.proofs.Lowering.{lowers_none, lowers_hit, lowers_miss, lowers_all}
 use Rattle.placing.proofs.lower.lower_both.Goals as goal
-use Rattle.placing.proofs.lower.lower_both.Goals.{then-keys-i+then-others-i, then-keys-i+else-others-i, else-keys-i}
+use Rattle.placing.proofs.lower.lower_both.Goals.{
+  then-keys-i+then-others-i, then-keys-i+else-others-i, else-keys-i,
+}
 
 pub loop-i-init : goal.loop-i-init
 loop-i-init c =

@@ -1,11 +1,9 @@
 -- A call of `lower_pair` carries the loop one place on (`lowers_next`), two a turn.
 use borrow.Author.Rules.{rules}
-use Rattle.calls.specs.Hits.{hits}
 use native.Mathlib.Omega.{arith}
 use mathlib.Core.Path.{◌∙◌}
-use Prim.Native.Nat.{◌+◌, ◌-◌, ◌≤◌}
+use Prim.Native.Nat.{◌+◌, ◌-◌}
 use Rattle.placing.specs.Less.{is_input, fed}
-use Rattle.placing.specs.Lowered.{Lowered}
 use Rattle.placing.proofs.Hits.{lower_room}
 use Rattle.placing.proofs.Lowering.{lowers_none, lowers_next, lowers_all}
 use Rattle.placing.proofs.lower.lower_fed.Goals as goal

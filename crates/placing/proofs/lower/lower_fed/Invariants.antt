@@ -1,12 +1,8 @@
 -- A call of `lower_pair` carries the loop one place on (`lowers_next`), two a turn.
 use Rattle.calls.specs.Hits.{hits}
-use native.Mathlib.Omega.{arith}
-use mathlib.Core.Path.{◌∙◌}
-use Prim.Native.Nat.{◌+◌, ◌-◌, ◌≤◌}
+use Prim.Native.Nat.{◌-◌, ◌≤◌}
 use Rattle.placing.specs.Less.{is_input, fed}
 use Rattle.placing.specs.Lowered.{Lowered}
-use Rattle.placing.proofs.Hits.{lower_room}
-use Rattle.placing.proofs.Lowering.{lowers_none, lowers_next, lowers_all}
 use Rattle.placing.proofs.lower.lower_fed.Given as goal
 
 abbrev pub invariant-loop-k : goal.invariant-loop-k

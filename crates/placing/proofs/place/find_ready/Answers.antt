@@ -1,9 +1,8 @@
 -- Below c the bits are those of the calls that wait for none (`found_on`, `found-not`).
 use borrow.Author.Rules.{rules}
 use native.Mathlib.Omega.{arith}
-use mathlib.Core.Logic.{⊎_elim}
-use Prim.Native.Nat.{◌-◌, ◌≤◌}
-use Rattle.placing.proofs.Found.{Found, found_starts, found_on, found-not, found-ends}
+use Prim.Native.Nat.{◌-◌}
+use Rattle.placing.proofs.Found.{found_starts, found_on, found-not, found-ends}
 use Rattle.placing.proofs.place.find_ready.Goals as goal
 use Rattle.placing.proofs.place.find_ready.Goals.{else-waiting-c-eq0, then-waiting-c-eq0}
 

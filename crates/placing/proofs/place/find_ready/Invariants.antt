@@ -1,8 +1,6 @@
 -- Below c the bits are those of the calls that wait for none (`found_on`, `found-not`).
-use native.Mathlib.Omega.{arith}
-use mathlib.Core.Logic.{⊎_elim}
 use Prim.Native.Nat.{◌-◌, ◌≤◌}
-use Rattle.placing.proofs.Found.{Found, found_starts, found_on, found-not, found-ends}
+use Rattle.placing.proofs.Found.{Found}
 use Rattle.placing.proofs.place.find_ready.Given as goal
 
 abbrev pub invariant-loop-c : goal.invariant-loop-c

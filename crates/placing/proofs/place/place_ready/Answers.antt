@@ -1,7 +1,7 @@
 -- What is placed is the front of `placed_of`; `stage_on` carries the loop, `stage_stands` ends it.
 use native.Mathlib.Omega.{arith}
 use mathlib.Core.Path.{◌≡◌, refl, ap, sym, ◌∙◌}
-use mathlib.Core.List.{[], ◌∷◌, ◌++◌}
+use mathlib.Core.List.{◌∷◌, ◌++◌}
 use Prim.Native.Nat.{◌+◌, ◌-◌, ◌<◌}
 use lib.ListN.{length, take, length-append}
 use Rattle.table.specs.Packed.{shape_of}
@@ -11,7 +11,7 @@ use Rattle.calls.specs.Precedence.{precedes}
 use Rattle.orders.specs.Sorted.{sort-stop, sort-none}
 use Rattle.orders.specs.Walk.{among}
 use Rattle.placing.specs.Placing.{call_count, placed_of}
-use Rattle.placing.proofs.Stage.{lowest-next, lowest-none, Stage, stage_starts}
+use Rattle.placing.proofs.Stage.{lowest-next, lowest-none, stage_starts}
 use Rattle.placing.proofs.Stage.{stage_front, stage_stands, stage_long, stage_room, stage_on}
 use Rattle.placing.proofs.place.place_ready.Goals as goal
 

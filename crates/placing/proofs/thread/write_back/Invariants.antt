@@ -1,7 +1,5 @@
 -- Each turn writes one call before those written (`backing_on`).
-use native.Mathlib.Omega.{arith}
-use Rattle.placing.proofs.Threads.{Backing, backing_starts, backing_call, backing_on}
-use Rattle.placing.proofs.Threads.{backing_ends}
+use Rattle.placing.proofs.Threads.{Backing}
 use Rattle.placing.proofs.thread.write_back.Given as goal
 
 abbrev pub invariant-loop-n : goal.invariant-loop-n

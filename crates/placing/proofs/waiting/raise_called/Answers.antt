@@ -1,13 +1,11 @@
 -- A turn raises one count or none: `raise_hit` and `less_miss` carry the loop.
 use borrow.Author.Rules.{rules}
-use Rattle.calls.specs.Hits.{hits}
-use Prim.Native.Nat.{◌-◌, ◌≤◌}
+use Prim.Native.Nat.{◌-◌}
 use lib.ListN.{length}
 use native.Mathlib.Omega.{arith}
 use Rattle.search.specs.Truth.{eq_true, eq_false}
-use Rattle.placing.specs.Less.{is_key, called, Less}
+use Rattle.placing.specs.Less.{is_key, called}
 use Rattle.placing.proofs.Hits.{less_none, less-all, raise_room, raise_hit, less_miss}
-use mathlib.Core.Logic.{⊎_elim}
 use Rattle.placing.proofs.waiting.raise_called.Goals as goal
 use Rattle.placing.proofs.waiting.raise_called.Goals.{else-keys-i, then-keys-i}
 

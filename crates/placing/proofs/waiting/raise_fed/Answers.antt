@@ -1,9 +1,8 @@
 -- Each turn raises one count: `raise_hit` carries the loop.
 use borrow.Author.Rules.{rules}
-use Rattle.calls.specs.Hits.{hits}
-use Prim.Native.Nat.{◌-◌, ◌≤◌}
+use Prim.Native.Nat.{◌-◌}
 use native.Mathlib.Omega.{arith}
-use Rattle.placing.specs.Less.{each, fed, Less}
+use Rattle.placing.specs.Less.{each, fed}
 use Rattle.placing.proofs.Hits.{less_none, less-all, raise_room, raise_hit}
 use Rattle.placing.proofs.waiting.raise_fed.Goals as goal
 

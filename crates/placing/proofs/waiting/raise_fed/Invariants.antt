@@ -1,9 +1,7 @@
 -- Each turn raises one count: `raise_hit` carries the loop.
 use Rattle.calls.specs.Hits.{hits}
 use Prim.Native.Nat.{◌-◌, ◌≤◌}
-use native.Mathlib.Omega.{arith}
 use Rattle.placing.specs.Less.{each, fed, Less}
-use Rattle.placing.proofs.Hits.{less_none, less-all, raise_room, raise_hit}
 use Rattle.placing.proofs.waiting.raise_fed.Given as goal
 
 abbrev pub invariant-loop-k : goal.invariant-loop-k

@@ -2,11 +2,7 @@
 use Rattle.calls.specs.Hits.{nth, hits}
 use Prim.Native.Nat.{◌-◌, ◌≤◌}
 use lib.ListN.{length}
-use native.Mathlib.Omega.{arith}
-use Rattle.search.specs.Truth.{eq_true, eq_false}
 use Rattle.placing.specs.Less.{is_key, Less}
-use Rattle.placing.proofs.Hits.{less_none, less-all, raise_room, raise_hit, less_miss}
-use mathlib.Core.Logic.{⊎_elim}
 use Rattle.placing.proofs.waiting.raise_keyed.Given as goal
 
 abbrev pub invariant-loop-i : goal.invariant-loop-i

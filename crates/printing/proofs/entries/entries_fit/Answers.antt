@@ -4,7 +4,7 @@ use mathlib.Core.Path.{ap, ◌∙◌}
 use lib.ListN.{length}
 use native.Mathlib.Omega.{arith}
 use Rattle.printing.proofs.Declares.{found-small, found_prints}
-use Rattle.printing.proofs.Listing.{Fitting, fitting_starts, fitting_on}
+use Rattle.printing.proofs.Listing.{fitting_starts, fitting_on}
 use Rattle.printing.proofs.Listing.{fitting_not, fitting_ends}
 use Rattle.printing.proofs.entries.entries_fit.Goals as goal
 

@@ -1,9 +1,8 @@
 -- The loop keeps what is written beside what is still to come (`Writing`).
 use Prim.Native.Nat.{◌-◌}
-use lib.ListN.{length}
 use native.Mathlib.Omega.{arith}
 use Rattle.printing.proofs.Declares.{found-small, found_prints, same-put, same-room}
-use Rattle.printing.proofs.Listing.{Writing, writing-starts, writing-on}
+use Rattle.printing.proofs.Listing.{writing-starts, writing-on}
 use Rattle.printing.proofs.Listing.{writing-room, writing_ends, writing_long}
 use Rattle.printing.proofs.entries.put_entries.Goals as goal
 

@@ -1,6 +1,5 @@
 -- The step is lower than the get; where no step waits, the get of the source remains.
 use mathlib.Core.Path.{sym, ap, ap₂, subst, ◌∙◌}
-use mathlib.Core.Logic.{⊎_elim}
 use mathlib.Core.Bool.{not}
 use Prim.Native.Nat.{◌+◌, ◌<◌}
 use lib.Dec.{T}

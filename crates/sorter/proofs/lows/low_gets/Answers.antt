@@ -10,7 +10,7 @@ use Rattle.search.specs.Truth.{says, denies}
 use Rattle.table.specs.Packed.{feeds, pair_input, pair_output}
 use Rattle.table.specs.Layout.{long-pairs}
 use Rattle.bits.specs.Bits.{has}
-use Rattle.sorter.proofs.Passes.{Filled, filled_starts, filled_on, Gets, gets-start}
+use Rattle.sorter.proofs.Passes.{filled_starts, filled_on, Gets, gets-start}
 use Rattle.sorter.proofs.Passes.{gets-output, gets_higher, gets-done, gets_lower, gets-end}
 use Rattle.sorter.proofs.lows.low_gets.Goals as goal
 

@@ -1,17 +1,7 @@
 -- Each byte is X at first; then it is its output's lowest among the feeds passed (`gets_lower`).
-use Prim.Native.Nat.{◌+◌, ◌-◌, ◌≤◌, ◌<◌}
-use mathlib.Core.Path.{sym, ap, ap₂, subst, ◌∙◌}
-use mathlib.Core.Bool.{not}
-use native.Mathlib.Omega.{arith}
-use lib.Dec.{T}
-use lib.ListN.{length, get_or, set}
-use borrow.Author.Tests.{not-true, not-false}
-use Rattle.search.specs.Truth.{says, denies}
-use Rattle.table.specs.Packed.{feeds, pair_input, pair_output}
-use Rattle.table.specs.Layout.{long-pairs}
+use Prim.Native.Nat.{◌-◌}
 use Rattle.bits.specs.Bits.{has}
-use Rattle.sorter.proofs.Passes.{Filled, filled_starts, filled_on, Gets, gets-start}
-use Rattle.sorter.proofs.Passes.{gets-output, gets_higher, gets-done, gets_lower, gets-end}
+use Rattle.sorter.proofs.Passes.{Filled, Gets}
 use Rattle.sorter.proofs.lows.low_gets.Given as goal
 
 abbrev pub invariant-loop-y : goal.invariant-loop-y

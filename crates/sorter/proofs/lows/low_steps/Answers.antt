@@ -9,7 +9,7 @@ use borrow.Author.Tests.{not-true, not-false}
 use Rattle.search.specs.Truth.{says, denies}
 use Rattle.table.specs.Layout.{long_input_owners, long-kinds}
 use Rattle.bits.specs.Bits.{has}
-use Rattle.sorter.proofs.Passes.{Filled, filled_starts, filled_on, Steps, steps_start}
+use Rattle.sorter.proofs.Passes.{filled_starts, filled_on, steps_start}
 use Rattle.sorter.proofs.Passes.{steps_owner, steps_delayed, steps_done}
 use Rattle.sorter.proofs.Passes.{steps_here, steps_end}
 use Rattle.sorter.proofs.lows.low_steps.Goals as goal

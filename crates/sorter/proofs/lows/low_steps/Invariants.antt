@@ -1,17 +1,7 @@
 -- Each byte is X at first; then it is its unit's lowest among the inputs passed (`steps_here`).
-use Prim.Native.Nat.{◌+◌, ◌-◌}
-use mathlib.Core.Path.{sym, ap, ap₂, subst, ◌∙◌}
-use mathlib.Core.Bool.{not}
-use native.Mathlib.Omega.{arith}
-use lib.Dec.{T}
-use lib.ListN.{length, get_or}
-use borrow.Author.Tests.{not-true, not-false}
-use Rattle.search.specs.Truth.{says, denies}
-use Rattle.table.specs.Layout.{long_input_owners, long-kinds}
+use Prim.Native.Nat.{◌-◌}
 use Rattle.bits.specs.Bits.{has}
-use Rattle.sorter.proofs.Passes.{Filled, filled_starts, filled_on, Steps, steps_start}
-use Rattle.sorter.proofs.Passes.{steps_owner, steps_delayed, steps_done}
-use Rattle.sorter.proofs.Passes.{steps_here, steps_end}
+use Rattle.sorter.proofs.Passes.{Filled, Steps}
 use Rattle.sorter.proofs.lows.low_steps.Given as goal
 
 abbrev pub invariant-loop-u : goal.invariant-loop-u

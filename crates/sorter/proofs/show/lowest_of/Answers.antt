@@ -1,8 +1,7 @@
 -- The lowest so far is at most each byte passed, and one of them or the bound.
 use borrow.Author.Rules.{rules}
-use Prim.Native.Nat.{◌-◌, ◌≤◌}
-use lib.ListN.{length}
-use Rattle.sorter.proofs.Turning.{Low, low_starts, low_lower, low-stays, low-ends}
+use Prim.Native.Nat.{◌-◌}
+use Rattle.sorter.proofs.Turning.{low_starts, low_lower, low-stays, low-ends}
 use Rattle.sorter.proofs.show.lowest_of.Goals as goal
 use Rattle.sorter.proofs.show.lowest_of.Goals.{else-bytes-i, then-bytes-i}
 

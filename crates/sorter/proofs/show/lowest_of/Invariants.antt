@@ -1,8 +1,7 @@
 -- The lowest so far is at most each byte passed, and one of them or the bound.
 use Prim.Native.Nat.{◌-◌, ◌≤◌}
-use mathlib.Core.Logic.{⊎_elim}
 use lib.ListN.{length}
-use Rattle.sorter.proofs.Turning.{Low, low_starts, low_lower, low-stays, low-ends}
+use Rattle.sorter.proofs.Turning.{Low}
 use Rattle.sorter.proofs.show.lowest_of.Given as goal
 
 abbrev pub invariant-loop-i : goal.invariant-loop-i

@@ -1,6 +1,6 @@
 -- None passed over is the byte.
 use borrow.Author.Rules.{rules}
-use Prim.Native.Nat.{ℕ, ◌-◌, ◌≤◌, ◌<◌}
+use Prim.Native.Nat.{◌-◌}
 use mathlib.Core.Bool.{not}
 use native.Mathlib.Omega.{arith}
 use lib.Dec.{T}

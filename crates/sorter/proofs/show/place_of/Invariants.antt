@@ -1,12 +1,8 @@
 -- None passed over is the byte.
 use Prim.Native.Nat.{ℕ, ◌-◌, ◌≤◌, ◌<◌}
 use mathlib.Core.Bool.{not}
-use native.Mathlib.Omega.{arith}
 use lib.Dec.{T}
 use lib.ListN.{length}
-use borrow.Author.Count.{below_more}
-use Rattle.search.specs.Truth.{eq_true, eq_false}
-use Rattle.search.specs.Least.{found, not_found}
 use Rattle.placing.specs.Less.{is_key}
 use Rattle.sorter.proofs.show.place_of.Given as goal
 

@@ -3,8 +3,7 @@ use borrow.Author.Rules.{rules}
 use Prim.Native.Nat.{◌-◌}
 use mathlib.Core.Logic.{inl, inr}
 use native.Mathlib.Omega.{arith}
-use lib.ListN.{length}
-use Rattle.sorter.proofs.Turning.{Turning, turning_starts, turning_on, turning_ends}
+use Rattle.sorter.proofs.Turning.{turning_starts, turning_on, turning_ends}
 use Rattle.sorter.proofs.show.write_turned.Goals as goal
 use Rattle.sorter.proofs.show.write_turned.Goals.{else-from-bytes, then-from-bytes}
 

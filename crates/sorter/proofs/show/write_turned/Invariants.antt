@@ -1,9 +1,7 @@
 -- What is written and what is to come is the list turned (`turning_on`).
 use Prim.Native.Nat.{◌-◌}
-use mathlib.Core.Logic.{⊎_elim, inl, inr}
-use native.Mathlib.Omega.{arith}
 use lib.ListN.{length}
-use Rattle.sorter.proofs.Turning.{Turning, turning_starts, turning_on, turning_ends}
+use Rattle.sorter.proofs.Turning.{Turning}
 use Rattle.sorter.proofs.show.write_turned.Given as goal
 
 abbrev pub invariant-loop-to : goal.invariant-loop-to

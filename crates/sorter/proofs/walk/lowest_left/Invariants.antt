@@ -1,14 +1,8 @@
 -- All passed over are marked.
 use Prim.Native.Nat.{ℕ, ◌-◌, ◌≤◌, ◌<◌}
 use mathlib.Core.Bool.{not}
-use native.Mathlib.Omega.{arith}
 use lib.Dec.{T}
-use borrow.Author.Count.{below_more}
-use borrow.Author.Tests.{not-true, not-false}
-use Rattle.search.specs.Truth.{says, denies}
-use Rattle.search.specs.Least.{found, not_found}
 use Rattle.bits.specs.Bits.{has}
-use Rattle.sorter.proofs.Trails.{twice}
 use Rattle.sorter.proofs.walk.lowest_left.Given as goal
 
 abbrev pub invariant-loop-c : goal.invariant-loop-c

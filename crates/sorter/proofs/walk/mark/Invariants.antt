@@ -1,10 +1,6 @@
 -- What is marked and what is to come on the thread are all its calls (`marking_on`).
 use Prim.Native.Nat.{◌-◌}
-use mathlib.Core.Path.{sym, subst}
-use lib.ListN.{get_or}
-use native.Mathlib.Omega.{arith}
-use Rattle.sorter.proofs.Trails.{Marking, marking_starts, marking_call}
-use Rattle.sorter.proofs.Trails.{marking_on, marking_ends}
+use Rattle.sorter.proofs.Trails.{Marking}
 use Rattle.sorter.proofs.walk.mark.Given as goal
 
 abbrev pub invariant-loop-n : goal.invariant-loop-n

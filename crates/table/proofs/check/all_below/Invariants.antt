@@ -1,9 +1,7 @@
 -- Every byte passed so far is below the bound.
 use Prim.Native.Nat.{◌≤◌, ◌-◌}
 use lib.ListN.{length}
-use borrow.Author.Count.{below_more}
-use Rattle.table.proofs.Checking.{Below, below_this, below-stop, below_end}
-use native.Mathlib.Omega.{arith}
+use Rattle.table.proofs.Checking.{Below}
 use Rattle.table.proofs.check.all_below.Given as goal
 
 abbrev pub invariant-loop-i : goal.invariant-loop-i

@@ -1,9 +1,6 @@
 -- No pair passed so far is pair k.
 use Prim.Native.Nat.{◌≤◌, ◌-◌}
-use borrow.Author.Count.{below_more}
-use Rattle.search.specs.Truth.{says, denies}
-use Rattle.table.proofs.Checking.{Fresh, again-here, again-not}
-use native.Mathlib.Omega.{arith}
+use Rattle.table.proofs.Checking.{Fresh}
 use Rattle.table.proofs.check.feed_again.Given as goal
 
 abbrev pub invariant-loop-j : goal.invariant-loop-j

@@ -1,9 +1,7 @@
 -- The refusal of all pairs is that of the pairs not yet passed, from pair k on.
 use borrow.Author.Rules.{rules}
-use Prim.Native.Nat.{◌≤◌, ◌-◌}
-use mathlib.Core.Path.{◌≡◌, sym, ◌∙◌}
+use mathlib.Core.Path.{sym, ◌∙◌}
 use borrow.Author.Tests.{not-true, not-false}
-use Rattle.table.specs.Check.{feeds_from}
 use Rattle.table.proofs.Checking.{feeds-start, feeds-end}
 use Rattle.table.proofs.Checking.{feeds-unknown, feeds-again, feeds_on}
 use Rattle.table.proofs.check.feeds_refusal.Goals as goal
@@ -27,14 +25,13 @@ returns-then-feed_again c =
     (sym c.feed_again.ensures ∙ c.if-feed_again.true))
 
 pub loop-k-preserved : goal.loop-k-preserved
-loop-k-preserved c =
-    (
-      search rules,
-      c.loop-k.invariant.1
-          ∙ feeds_on _ _ _ _ _ c.loop-k-test.true (sym c.feed_known.ensures ∙ not-false _
-          c.if-not-feed_known.false-raw)
-          (sym c.feed_again.ensures ∙ c.if-feed_again.false),
-    )
+loop-k-preserved c = (
+  search rules,
+  c.loop-k.invariant.1
+      ∙ feeds_on _ _ _ _ _ c.loop-k-test.true (sym c.feed_known.ensures ∙ not-false _
+      c.if-not-feed_known.false-raw)
+      (sym c.feed_again.ensures ∙ c.if-feed_again.false),
+)
 
 pub returns : goal.returns
 returns c =

@@ -1,10 +1,7 @@
 -- The refusal of all pairs is that of the pairs not yet passed, from pair k on.
 use Prim.Native.Nat.{◌≤◌, ◌-◌}
-use mathlib.Core.Path.{◌≡◌, sym, ◌∙◌}
-use borrow.Author.Tests.{not-true, not-false}
+use mathlib.Core.Path.{◌≡◌}
 use Rattle.table.specs.Check.{feeds_from}
-use Rattle.table.proofs.Checking.{feeds-start, feeds-end}
-use Rattle.table.proofs.Checking.{feeds-unknown, feeds-again, feeds_on}
 use Rattle.table.proofs.check.feeds_refusal.Given as goal
 
 abbrev pub invariant-loop-k : goal.invariant-loop-k

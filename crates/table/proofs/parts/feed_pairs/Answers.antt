@@ -6,5 +6,8 @@ use Rattle.table.proofs.parts.feed_pairs.Goals as goal
 pub returns : goal.returns
 unfolding pairs
 returns c =
-    c.stretch.ensures ∙ rw (c.output_count.ensures.value, c.input_count.ensures.value,
-    c.feed_count.ensures.value)
+    c.stretch.ensures ∙ rw (
+      c.output_count.ensures.value,
+      c.input_count.ensures.value,
+      c.feed_count.ensures.value,
+    )

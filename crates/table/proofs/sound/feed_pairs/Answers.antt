@@ -7,8 +7,13 @@ use Rattle.table.proofs.sound.feed_pairs.Goals as goal
 pub slice_bounds-result-end : goal.slice_bounds-result-end
 unfolding asked
 slice_bounds-result-end c =
-    omega (arith, c.requires.long, c.feed_count-n.ensures.value, c.input_count.ensures.value,
-    c.output_count.ensures.value)
+    omega (
+      arith,
+      c.requires.long,
+      c.feed_count-n.ensures.value,
+      c.input_count.ensures.value,
+      c.output_count.ensures.value,
+    )
 
 pub returns : goal.returns
 unfolding pairs

@@ -1,14 +1,8 @@
 -- The loop keeps that every input passed over is joined.
 use Prim.Native.Nat.{ℕ, ◌-◌, ◌<◌, ◌≤◌}
-use mathlib.Core.Path.{◌∙◌}
 use mathlib.Core.Bool.{not}
-use native.Mathlib.Omega.{arith}
-use borrow.Author.Count.{below_more}
 use lib.Dec.{T}
-use Rattle.search.specs.Least.{found, not_found}
-use Rattle.search.specs.Truth.{eq_true, eq_false}
 use Rattle.notes.specs.Notes.{is_loose}
-use Rattle.notes.proofs.Slots.{loose-found}
 use Rattle.text.proofs.noting.loose.Given as goal
 
 abbrev pub invariant-loop-x : goal.invariant-loop-x

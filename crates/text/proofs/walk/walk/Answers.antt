@@ -1,8 +1,7 @@
 -- The loop keeps that the lines left, with what is noted, give what all the lines give.
 use Prim.Native.Nat.{◌-◌}
 use native.Mathlib.Omega.{arith}
-use lib.ListN.{length}
-use Rattle.text.proofs.Going.{Going, going_starts, going_room, going_on}
+use Rattle.text.proofs.Going.{going_starts, going_room, going_on}
 use Rattle.text.proofs.Going.{going_stop, going_end, told-fields}
 use Rattle.text.proofs.walk.walk.Goals as goal
 
