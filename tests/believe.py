@@ -26,10 +26,12 @@ def counted():
 
 def theorems():
     """For each theorem that the page names: its file and its statement, or nothing where no file has it."""
-    public = {}
+    public, code = {}, "".join(path.read_text(encoding="utf-8") for path in CRATES.glob("*/src/*.rt"))
     for path in CRATES.glob("*/specs/*.antt"):
         public |= {d.name: (path, d) for d in defined(path) if d.lines[0].strip().startswith("pub ")}
-    for name in sorted(set(re.findall(r"`([a-z]+(?:-\w+)+)`", PAGE))):
+    functions = set(re.findall(r"\bfn (\w+)", code)) - set(public)
+    listed = {name for row in rows() for name in row.named}
+    for name in sorted(set(re.findall(r"`([a-z]+(?:[-_]\w+)+)`", PAGE)) - functions - listed):
         path, theorem = public.get(name, (None, None))
         yield path, name, theorem and theorem.statement()
 

@@ -1,7 +1,8 @@
 #!/usr/bin/env python3
-"""Holds each must-fail edit to its reason, after `rt ci`. Lines of the edit say which:
+"""Holds each must-fail edit to its reason, which `rt ci` does not look at. Lines of the edit say which:
 at: FILE            the first error of FILE is a fact of it that fails: a computed example, or a statement on a contract
-run: examples       the program, run without proof on the edited sources, writes something else than its file `stdout`
+run: examples       the program, run without proof on the edited sources, writes something else than its file `stdout`,
+                    or stops at a fault before it has written that
 run: lister NAME    the lister does so on the stored text tests/lister/NAME.in
 `tests/edits.py CRATE/LABEL ...` holds only these."""
 import os
@@ -16,21 +17,16 @@ from pathlib import Path
 ROOT = Path(__file__).resolve().parent.parent
 STORED = ROOT / "tests/lister"
 BY_SHAPE = "a trial run of this declaration was admitted"  # noted where only an `unfolding` is missing
-OTHERWISE = "did not write what is expected"
+FOLLOWS = re.compile(r"\d+ declarations? that depends? on |was not admitted")  # a consequence of another error
+OTHERWISE = re.compile(r"^case=case run=(fault\b|.* output=differs\b)", re.M)  # it wrote something else, or stopped
 PROGRAMS = {"examples": 1, "lister": 2}  # how many words a reason has
 
 
-def refused_at(edit, file):
-    """Whether a fact of the named file fails, and not its shape or a consequence; other files' errors may stand above."""
-    log = ROOT / f"target/must-fail/{edit.parent.parent.name}/{edit.stem}/.log"
-    lines = log.read_text(encoding="utf-8").splitlines() if log.exists() else []
-    there = [line for line in lines if f"/{file}:" in line.partition(": error: ")[0]]
-    first = next((line for line in there if ": error: " in line), "was not admitted")
-    return "was not admitted" not in first and not any(BY_SHAPE in line for line in there)
-
-
-def apply(edit, crates):
-    """Makes the edit's replacements in a copy of the crates."""
+def edited(edit, folder):
+    """A copy of the crates in the folder, with the edit's replacements made."""
+    crates = Path(folder) / "crates"
+    shutil.copytree(ROOT / "crates", crates, ignore=shutil.ignore_patterns("out", "must-fail"))
+    shutil.copy(ROOT / "crates.txt", folder)
     file = old = None
     for line in edit.read_text(encoding="utf-8").splitlines():
         if line.startswith("file: "):
@@ -39,20 +35,33 @@ def apply(edit, crates):
             old = line[5:]
         elif line.startswith("new:"):
             file.write_text(file.read_text(encoding="utf-8").replace(old, line[5:], 1), encoding="utf-8")
+    return crates
+
+
+def said(words, crate):
+    """Whether a command in a crate's folder ends badly, and all that it says."""
+    done = subprocess.run(words, cwd=crate, stdin=subprocess.DEVNULL, capture_output=True, text=True, check=False)
+    return done.returncode != 0, done.stdout + done.stderr
+
+
+def refused_at(edit, file):
+    """Whether a fact of the named file fails, and not its shape or a consequence; other files' errors may stand above."""
+    with tempfile.TemporaryDirectory() as folder:
+        refused, text = said(["rt", "check"], edited(edit, folder) / edit.parent.parent.name)
+    there = [line for line in text.splitlines() if re.match(rf"(\./)?{re.escape(file)}:\d+:\d+: ", line)]
+    first = next((line for line in there if ": error: " in line), "was not admitted")
+    return refused and not FOLLOWS.search(first) and not any(BY_SHAPE in line for line in there)
 
 
 def writes_otherwise(edit, program, text=None):
     """Whether the program writes something else on the edited sources."""
     with tempfile.TemporaryDirectory() as folder:
-        copy = Path(folder)
-        shutil.copytree(ROOT / "crates", copy / "crates", ignore=shutil.ignore_patterns("proofs", "must-fail"))
-        shutil.copy(ROOT / "crates.txt", copy)
-        if text:
-            shutil.copy(STORED / f"{text}.in", copy / f"crates/{program}/stdin")
-            shutil.copy(STORED / f"{text}.out", copy / f"crates/{program}/stdout")
-        apply(edit, copy / "crates")
-        done = subprocess.run(["rt", "try", program], cwd=copy, capture_output=True, text=True, check=False)
-    return done.returncode != 0 and OTHERWISE in done.stdout + done.stderr
+        crate, cases = edited(edit, folder) / program, Path(folder) / "cases"
+        cases.mkdir()
+        (cases / "case").write_bytes((STORED / f"{text}.in").read_bytes() if text else b"")
+        shutil.copy(STORED / f"{text}.out" if text else crate / "stdout", cases / "case.stdout")
+        otherwise, told = said(["rt", "try", "--cases", str(cases)], crate)
+    return otherwise and bool(OTHERWISE.search(told))
 
 
 def fault(edit):

@@ -20,6 +20,11 @@ def read(path):
     return path.read_text(encoding="utf-8", errors="replace")
 
 
+def is_source(path):
+    """A file, and none that the toolchain made."""
+    return path.is_file() and not (path.is_relative_to(ROOT / "crates") and path.relative_to(ROOT / "crates").parts[1] == "out")
+
+
 def is_there(path):
     """In the tree, under crates/, or in some crate; words in capitals stand for any name."""
     path = re.sub(r"\b(NAME|LABEL)\b", "*", path).rstrip("/")
@@ -116,7 +121,7 @@ def main():
               for name, numbers in known.items() if len(numbers) != len(set(numbers))]
     for page in PAGES:
         failed += [f"{page.name}: {path} is not there" for path in broken(page, rules) + lost(page)]
-    for source in (path for room in ROOMS for path in sorted((ROOT / room).rglob("*")) if path.is_file()):
+    for source in (path for room in ROOMS for path in sorted((ROOT / room).rglob("*")) if is_source(path)):
         failed += [f"{source.relative_to(ROOT)}: no SPECIFICATION, {rule}" for rule in misnamed(source, known)]
     if known.get("Numbers") != NUMBERS:
         failed.append(f"SPECIFICATION.md: the numbers' lines are {known.get('Numbers')}")

@@ -70,14 +70,16 @@ def defined(path):
 
 def declared(crate, parts):
     """Where a type stands that is declared in code, and its name: `declared.records.Record` and the like."""
-    parts = [part for part in parts if part != "the-variants"]
+    parts = [part for part in parts if part != "TheVariants"]
     return CRATES / crate / "src" / f"{(['lib'] + parts[1:-1])[-1]}.rt", parts[-1]
 
 
 def brought_in(path):
     """For each name that a file brings in from the project: the file it stands in, and its name there."""
     text, names = path.read_text(encoding="utf-8"), {}
-    for crate, module, listed in re.findall(r"use Rattle·(\w+)(?:·specs)?\.specs\.([\w.-]+)\.\{([^}]*)\}", text):
+    for crate, module, listed in re.findall(r"use Rattle\.(\w+)\.specs\.([\w.]+)\.\{([^}]*)\}", text):
+        if not (CRATES / crate).is_dir():
+            continue
         parts = module.split(".")
         for entry in filter(None, map(str.strip, listed.split(","))):
             there, _, here = entry.partition(" as ")
@@ -95,8 +97,8 @@ def contracts(path):
 
 
 def words(text):
-    """The words of a text but the fields that it asks of records, as in `s .units`."""
-    return set(re.findall(r"[^\s(){}\[\].;,:|&]+", re.sub(r"(?<=[\s(])\.[\w-]+", " ", text)))
+    """The words of a text but the fields that it asks of records, as in `s.units`."""
+    return set(re.findall(r"[^\s(){}\[\].;,:|&]+", re.sub(r"(?<=[\w')])\.[\w-]+", " ", text)))
 
 
 class Row(NamedTuple):

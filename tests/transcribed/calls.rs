@@ -23,8 +23,8 @@ use Call::{Get, NoCall, Set, Step};
 
 // ---- crates/calls/specs/Number.antt
 
-//| unfoldable pub callIn : ℕ → ℕ → ℕ → ℕ → Call
-//| callIn u y x c =
+//| unfoldable pub call_in : ℕ → ℕ → ℕ → ℕ → Call
+//| call_in u y x c =
 //|     cond (ltb c u) (Step c)
 //|     (cond (ltb (c - u) y) (Get (c - u))
 //|     (cond (ltb (c - u - y) x) (Set (c - u - y))
@@ -41,26 +41,26 @@ pub fn call_in(u: u64, y: u64, x: u64, c: u64) -> Call {
     }
 }
 
-//| abbrev pub callOf : Shape → ℕ → Call
-//| callOf s = callIn (s .units) (s .outputs) (s .inputs)
+//| abbrev pub call_of : Shape → ℕ → Call
+//| call_of s = call_in s.units s.outputs s.inputs
 pub fn call_of(s: &Shape, c: u64) -> Call {
     call_in(s.units, s.outputs, s.inputs, c)
 }
 
-//| abbrev pub stepNo : ℕ → ℕ
-//| stepNo u = u
+//| abbrev pub step_no : ℕ → ℕ
+//| step_no u = u
 pub fn step_no(u: u64) -> u64 {
     u
 }
 
-//| abbrev pub getNo : Shape → ℕ → ℕ
-//| getNo s y = s .units + y
+//| abbrev pub get_no : Shape → ℕ → ℕ
+//| get_no s y = s.units + y
 pub fn get_no(s: &Shape, y: u64) -> u64 {
     s.units + y
 }
 
-//| abbrev pub setNo : Shape → ℕ → ℕ
-//| setNo s x = s .units + s .outputs + x
+//| abbrev pub set_no : Shape → ℕ → ℕ
+//| set_no s x = s.units + s.outputs + x
 pub fn set_no(s: &Shape, x: u64) -> u64 {
     s.units + s.outputs + x
 }
@@ -68,14 +68,11 @@ pub fn set_no(s: &Shape, x: u64) -> u64 {
 // ---- crates/calls/specs/Precedence.antt
 
 //| pub data Precedes (s : Shape) (a b : ℕ) : Type 0 where
-//|   step-get : (y : ℕ) → y < s .outputs → a ≡ stepNo (s .outputOwner y) → b ≡ getNo s y → Precedes s a b
-//|   get-set : (x : ℕ) → x < s .inputs → a ≡ getNo s (s .source x) → b ≡ setNo s x → Precedes s a b
-//|   set-get : (k : ℕ) → k < s .feeds → a ≡ setNo s (s .feedInput k) → b ≡ getNo s (s .feedOutput k)
-//|     → Precedes s a b
-//|   set-step : (x : ℕ) → x < s .inputs → s .kind x ≡ 1 → a ≡ setNo s x → b ≡ stepNo (s .inputOwner x)
-//|     → Precedes s a b
-//|   step-set : (x : ℕ) → x < s .inputs → s .kind x ≡ 0 → a ≡ stepNo (s .inputOwner x) → b ≡ setNo s x
-//|     → Precedes s a b
+//|   step_get : (y : ℕ) → y < s.outputs → a ≡ step_no (s.output_owner y) → b ≡ get_no s y → Precedes s a b
+//|   get_set : (x : ℕ) → x < s.inputs → a ≡ get_no s (s.source x) → b ≡ set_no s x → Precedes s a b
+//|   set_get : (k : ℕ) → k < s.feeds → a ≡ set_no s (s.feed_input k) → b ≡ get_no s (s.feed_output k) → Precedes s a b
+//|   set-step : (x : ℕ) → x < s.inputs → s.kind x ≡ 1 → a ≡ set_no s x → b ≡ step_no (s.input_owner x) → Precedes s a b
+//|   step_set : (x : ℕ) → x < s.inputs → s.kind x ≡ 0 → a ≡ step_no (s.input_owner x) → b ≡ set_no s x → Precedes s a b
 pub fn Precedes(s: &Shape, a: u64, b: u64) -> bool {
     let step_get = any(s.outputs, &|y| a == step_no((s.output_owner)(y)) && b == get_no(s, y));
     let get_set = any(s.inputs, &|x| a == get_no(s, (s.source)(x)) && b == set_no(s, x));
@@ -90,23 +87,23 @@ pub fn Precedes(s: &Shape, a: u64, b: u64) -> bool {
     step_get || get_set || set_get || set_step || step_set
 }
 
-//| unfoldable pub feedsTo : Shape → ℕ → ℕ → Bool
-//| feedsTo s x y = some (λ k. eqb (s .feedInput k) x && eqb (s .feedOutput k) y) (s .feeds)
+//| unfoldable pub feeds_to : Shape → ℕ → ℕ → Bool
+//| feeds_to s x y = some (λ k. eqb (s.feed_input k) x && eqb (s.feed_output k) y) s.feeds
 pub fn feeds_to(s: &Shape, x: u64, y: u64) -> bool {
     some(&|k| (s.feed_input)(k) == x && (s.feed_output)(k) == y, s.feeds)
 }
 
-//| unfoldable pub hasKind : Shape → ℕ → ℕ → ℕ → Bool
-//| hasKind s kind x u = eqb (s .kind x) kind && eqb (s .inputOwner x) u
+//| unfoldable pub has_kind : Shape → ℕ → ℕ → ℕ → Bool
+//| has_kind s kind x u = eqb (s.kind x) kind && eqb (s.input_owner x) u
 pub fn has_kind(s: &Shape, kind: u64, x: u64, u: u64) -> bool {
     (s.kind)(x) == kind && (s.input_owner)(x) == u
 }
 
-//| unfoldable pub byKind : (ℕ → Bool) → (ℕ → Bool) → (ℕ → Bool) → Call → Bool
-//| byKind step get set (Step u) = step u
-//| byKind step get set (Get y) = get y
-//| byKind step get set (Set x) = set x
-//| byKind step get set NoCall = false
+//| unfoldable pub by_kind : (ℕ → Bool) → (ℕ → Bool) → (ℕ → Bool) → Call → Bool
+//| by_kind step get set (Step u) = step u
+//| by_kind step get set (Get y) = get y
+//| by_kind step get set (Set x) = set x
+//| by_kind step get set NoCall = false
 pub fn by_kind(step: Test, get: Test, set: Test, call: Call) -> bool {
     match call {
         Step(u) => step(u),
@@ -117,9 +114,9 @@ pub fn by_kind(step: Test, get: Test, set: Test, call: Call) -> bool {
 }
 
 //| unfoldable pub before : Shape → Call → Call → Bool
-//| before s (Step u) = byKind none (λ y. eqb (s .outputOwner y) u) (λ x. hasKind s 0 x u)
-//| before s (Get y) = byKind none none (λ x. eqb (s .source x) y)
-//| before s (Set x) = byKind (λ u. hasKind s 1 x u) (λ y. feedsTo s x y) none
+//| before s (Step u) = by_kind none (λ y. eqb (s.output_owner y) u) (λ x. has_kind s 0 x u)
+//| before s (Get y) = by_kind none none (λ x. eqb (s.source x) y)
+//| before s (Set x) = by_kind (λ u. has_kind s 1 x u) (λ y. feeds_to s x y) none
 //| before s NoCall = λ b. false
 pub fn before(s: &Shape, a: Call, b: Call) -> bool {
     match a {
@@ -131,7 +128,7 @@ pub fn before(s: &Shape, a: Call, b: Call) -> bool {
 }
 
 //| unfoldable pub precedes : Shape → ℕ → ℕ → Bool
-//| precedes s a b = before s (callOf s a) (callOf s b)
+//| precedes s a b = before s (call_of s a) (call_of s b)
 pub fn precedes(s: &Shape, a: u64, b: u64) -> bool {
     before(s, call_of(s, a), call_of(s, b))
 }

@@ -9,7 +9,7 @@ use super::table::shape_of;
 // ---- crates/demands/specs/Given.antt
 
 //| abbrev pub Given : List ℕ → ℕ → Type 0
-//| Given t room = ordering t room .answer .number ≡ 0
+//| Given t room = (ordering t room).answer.number ≡ 0
 pub fn Given(t: &[u64], room: u64) -> bool {
     ordering(t, room).answer.number == 0
 }
@@ -17,10 +17,10 @@ pub fn Given(t: &[u64], room: u64) -> bool {
 // ---- crates/demands/specs/Coded.antt
 
 //| pub record TellsOrder (t : List ℕ) (r : ℕ) (order : List ℕ) : Type 0 where
-//|   pub produced : (r ≡ callCount t) ↔ ((l : List ℕ) → Cycle (callCount t) (precedes (shapeOf t)) l → ⊥)
-//|   pub first : r ≡ callCount t → First (callCount t) (precedes (shapeOf t)) (take (callCount t) order)
-//|   pub shown : (r ≡ callCount t → ⊥)
-//|       → (k : ℕ) × (r ≡ 256 * 9 + k) × (k ≤ callCount t) × Shown (callCount t) (precedes (shapeOf t)) (take k order)
+//|   pub produced : (r ≡ call_count t) ↔ ((l : List ℕ) → Cycle (call_count t) (precedes (shape_of t)) l → ⊥)
+//|   pub first : r ≡ call_count t → First (call_count t) (precedes (shape_of t)) (take (call_count t) order)
+//|   pub shown : (r ≡ call_count t → ⊥)
+//|       → (k : ℕ) × (r ≡ 256 * 9 + k) × (k ≤ call_count t) × Shown (call_count t) (precedes (shape_of t)) (take k order)
 // k is at most r, since r is more than it by 256 * 9.
 pub fn TellsOrder(t: &[u64], r: u64, order: &[u64]) -> bool {
     let (N, s) = (call_count(t), shape_of(t));

@@ -4,7 +4,7 @@ use super::table::Answer;
 // ---- crates/firmware/specs/Code.antt
 
 //| unfoldable pub coded : Answer → ℕ
-//| coded a = 256 * a .number + a .place
+//| coded a = 256 * a.number + a.place
 pub fn coded(a: Answer) -> u64 {
     256 * a.number + a.place
 }

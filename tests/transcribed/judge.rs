@@ -1,7 +1,7 @@
 // The judged run, an order judged by it call by call, and records as call numbers.
 use super::calls::{get_no, set_no, step_no};
 use super::judging::refusal_at;
-use super::library::{cons, each, get_d, length, set, take};
+use super::library::{cons, each, get_or, length, set, take};
 use super::table::{refusal, shape_of, total, Shape, Sound};
 
 // ---- crates/judge/src/lib.rt
@@ -39,9 +39,9 @@ pub struct Record {
 // ---- crates/judge/specs/Marks.antt
 
 //| unfoldable pub marks : List Bool → ℕ → Bool
-//| marks done c = ltb c 224 && getD done c false
+//| marks done c = ltb c 224 && get_or done c false
 pub fn marks(done: &[bool], c: u64) -> bool {
-    c < 224 && get_d(done, c, false)
+    c < 224 && get_or(done, c, false)
 }
 
 // ---- crates/judge/specs/Taken.antt
@@ -54,7 +54,7 @@ pub fn fresh() -> Run {
 
 //| unfoldable pub advanced : Run → ℕ → ℕ → Taken
 //| advanced run c n =
-//|     cond (eqb n 0) (record { run = record { done = set (run .done) c true }; number = 0 })
+//|     cond (eqb n 0) (record { run = record { done = set run.done c true }; number = 0 })
 //|     (record { run = run; number = n })
 pub fn advanced(run: &Run, c: u64, n: u64) -> Taken {
     if n == 0 {
@@ -66,7 +66,7 @@ pub fn advanced(run: &Run, c: u64, n: u64) -> Taken {
 
 //| unfoldable pub taken : List ℕ → Run → ℕ → Taken
 //| taken t run c =
-//|     advanced run c (cond (eqb (refusal t) 0) (refusalAt (shapeOf t) (marks (run .done)) c) (refusal t))
+//|     advanced run c (cond (eqb (refusal t) 0) (refusal_at (shape_of t) (marks run.done) c) (refusal t))
 pub fn taken(t: &[u64], run: &Run, c: u64) -> Taken {
     let number = if refusal(t) == 0 {
         refusal_at(&shape_of(t), &|x| marks(&run.done, x), c)
@@ -78,9 +78,9 @@ pub fn taken(t: &[u64], run: &Run, c: u64) -> Taken {
 
 // ---- crates/judge/specs/CallByCall.antt
 
-//| abbrev pub runAfter : List ℕ → Run → List ℕ → Run
-//| runAfter t run [] = run
-//| runAfter t run (c ∷ l) = runAfter t (taken t run c .run) l
+//| abbrev pub run_after : List ℕ → Run → List ℕ → Run
+//| run_after t run [] = run
+//| run_after t run (c ∷ l) = run_after t (taken t run c).run l
 pub fn run_after(t: &[u64], run: &Run, list: &[u64]) -> Run {
     match list {
         [] => run.clone(),
@@ -88,16 +88,16 @@ pub fn run_after(t: &[u64], run: &Run, list: &[u64]) -> Run {
     }
 }
 
-//| abbrev pub answeredAt : List ℕ → Run → List ℕ → ℕ → ℕ
-//| answeredAt t run l i = taken t (runAfter t run (take i l)) (getD l i 0) .number
+//| abbrev pub answered_at : List ℕ → Run → List ℕ → ℕ → ℕ
+//| answered_at t run l i = (taken t (run_after t run (take i l)) (get_or l i 0)).number
 pub fn answered_at(t: &[u64], run: &Run, l: &[u64], i: u64) -> u64 {
-    taken(t, &run_after(t, run, take(i, l)), get_d(l, i, 0)).number
+    taken(t, &run_after(t, run, take(i, l)), get_or(l, i, 0)).number
 }
 
 //| pub record TakenInTurn (t order : List ℕ) : Type 0 where
 //|   pub sound : Sound t
-//|   pub each : (i : ℕ) → i < length order → answeredAt t fresh order i ≡ 0
-//|   pub whole : length order ≡ total (shapeOf t)
+//|   pub each : (i : ℕ) → i < length order → answered_at t fresh order i ≡ 0
+//|   pub whole : length order ≡ total (shape_of t)
 pub fn TakenInTurn(t: &[u64], order: &[u64]) -> bool {
     let sound = Sound(t);
     let each = each(length(order), &|i| answered_at(t, &fresh(), order, i) == 0);
@@ -109,9 +109,9 @@ pub fn TakenInTurn(t: &[u64], order: &[u64]) -> bool {
 
 //| unfoldable pub numbered : Shape → Record → ℕ
 //| numbered s r =
-//|     cond (eqb (r .kind) 0) (cond (ltb (r .number) (s .units)) (stepNo (r .number)) (total s))
-//|     (cond (eqb (r .kind) 1) (cond (ltb (r .number) (s .outputs)) (getNo s (r .number)) (total s))
-//|     (cond (eqb (r .kind) 2) (cond (ltb (r .number) (s .inputs)) (setNo s (r .number)) (total s))
+//|     cond (eqb r.kind 0) (cond (ltb r.number s.units) (step_no r.number) (total s))
+//|     (cond (eqb r.kind 1) (cond (ltb r.number s.outputs) (get_no s r.number) (total s))
+//|     (cond (eqb r.kind 2) (cond (ltb r.number s.inputs) (set_no s r.number) (total s))
 //|     (total s)))
 pub fn numbered(s: &Shape, r: Record) -> u64 {
     if r.kind == 0 {
@@ -137,9 +137,9 @@ pub fn numbered(s: &Shape, r: Record) -> u64 {
     }
 }
 
-//| unfoldable pub allNumbered : Shape → List Record → List ℕ
-//| allNumbered s [] = []
-//| allNumbered s (r ∷ rs) = numbered s r ∷ allNumbered s rs
+//| unfoldable pub all_numbered : Shape → List Record → List ℕ
+//| all_numbered s [] = []
+//| all_numbered s (r ∷ rs) = numbered s r ∷ all_numbered s rs
 pub fn all_numbered(s: &Shape, records: &[Record]) -> Vec<u64> {
     match records {
         [] => vec![],

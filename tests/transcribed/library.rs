@@ -14,7 +14,7 @@ pub fn length<A>(list: &[A]) -> u64 {
 }
 
 // what stands at a place, or the other where nothing does
-pub fn get_d<A: Clone>(list: &[A], place: u64, other: A) -> A {
+pub fn get_or<A: Clone>(list: &[A], place: u64, other: A) -> A {
     list.get(place as usize).cloned().unwrap_or(other)
 }
 

@@ -10,11 +10,10 @@ use super::sorter::ordering;
 //| unfoldable pub listing : List ℕ → List ℕ
 //| listing t =
 //|     let g = reading 644 t in
-//|     let lines = linesOf (rows t) in
-//|     cond (eqb (g .number) 0)
-//|     (outcomeText (lines (ascii "unit")) (lines (ascii "out")) (lines (ascii "in"))
-//|       (ordering (g .bytes) 224))
-//|     (refusalText (g .number) (g .place))
+//|     let lines = lines_of (rows t) in
+//|     cond (eqb g.number 0)
+//|     (outcome_text (lines (ascii "unit")) (lines (ascii "out")) (lines (ascii "in")) (ordering g.bytes 224))
+//|     (refusal_text g.number g.place)
 pub fn listing(t: &[u64]) -> Vec<u64> {
     let g = reading(644, t);
     let rows = rows(t);

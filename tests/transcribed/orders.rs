@@ -1,6 +1,6 @@
 // Demand 2's words by places, and the two procedures: the order, and the cycle shown.
 use super::library::{
-    any, append, cons, drop, each, get_d, implies, length, permutations, remembered, take,
+    any, append, cons, drop, each, get_or, implies, length, permutations, remembered, take,
     Relation, Test,
 };
 use super::search::{add, least_from, none, some};
@@ -9,12 +9,12 @@ use super::search::{add, least_from, none, some};
 
 //| module _ (N : ℕ) (pred : ℕ → ℕ → Bool) where
 //|   pub record Keeps (l : List ℕ) : Type 0 where
-//|     pub calls : (i : ℕ) → i < length l → getD l i 0 < N
-//|     pub holds : (c : ℕ) → c < N → (i : ℕ) × (i < length l) × (getD l i 0 ≡ c)
-//|     pub once : (i j : ℕ) → i < length l → j < length l → getD l i 0 ≡ getD l j 0 → i ≡ j
-//|     pub rules : (i j : ℕ) → i < length l → j < length l → T (pred (getD l i 0) (getD l j 0)) → i < j
+//|     pub calls : (i : ℕ) → i < length l → get_or l i 0 < N
+//|     pub holds : (c : ℕ) → c < N → (i : ℕ) × (i < length l) × (get_or l i 0 ≡ c)
+//|     pub once : (i j : ℕ) → i < length l → j < length l → get_or l i 0 ≡ get_or l j 0 → i ≡ j
+//|     pub rules : (i j : ℕ) → i < length l → j < length l → T (pred (get_or l i 0) (get_or l j 0)) → i < j
 pub fn Keeps(N: u64, pred: Relation, l: &[u64]) -> bool {
-    let (long, at) = (length(l), |i| get_d(l, i, 0));
+    let (long, at) = (length(l), |i| get_or(l, i, 0));
     let calls = each(long, &|i| at(i) < N);
     let holds = each(N, &|c| any(long, &|i| at(i) == c));
     let once = each(long, &|i| each(long, &|j| implies(at(i) == at(j), || i == j)));
@@ -27,11 +27,11 @@ pub fn Keeps(N: u64, pred: Relation, l: &[u64]) -> bool {
 //| module _ (N : ℕ) (pred : ℕ → ℕ → Bool) where
 //|   pub record Cycle (l : List ℕ) : Type 0 where
 //|     pub any : 0 < length l
-//|     pub calls : (i : ℕ) → i < length l → getD l i 0 < N
-//|     pub next : (i : ℕ) → suc i < length l → T (pred (getD l i 0) (getD l (suc i) 0))
-//|     pub last : T (pred (getD l (length l - 1) 0) (getD l 0 0))
+//|     pub calls : (i : ℕ) → i < length l → get_or l i 0 < N
+//|     pub next : (i : ℕ) → suc i < length l → T (pred (get_or l i 0) (get_or l (suc i) 0))
+//|     pub last : T (pred (get_or l (length l - 1) 0) (get_or l 0 0))
 pub fn Cycle(N: u64, pred: Relation, l: &[u64]) -> bool {
-    let (long, at) = (length(l), |i| get_d(l, i, 0));
+    let (long, at) = (length(l), |i| get_or(l, i, 0));
     let any = 0 < long;
     let calls = each(long, &|i| at(i) < N);
     let next = each(long, &|i| implies(i + 1 < long, || pred(at(i), at(i + 1))));
@@ -43,10 +43,10 @@ pub fn Cycle(N: u64, pred: Relation, l: &[u64]) -> bool {
 
 //| abbrev pub NoLater : List ℕ → List ℕ → Type 0
 //| NoLater l m =
-//|     (i : ℕ) → i < length l → ((j : ℕ) → j < i → getD l j 0 ≡ getD m j 0) → getD l i 0 ≤ getD m i 0
+//|     (i : ℕ) → i < length l → ((j : ℕ) → j < i → get_or l j 0 ≡ get_or m j 0) → get_or l i 0 ≤ get_or m i 0
 pub fn NoLater(l: &[u64], m: &[u64]) -> bool {
     each(length(l), &|i| {
-        implies(each(i, &|j| get_d(l, j, 0) == get_d(m, j, 0)), || get_d(l, i, 0) <= get_d(m, i, 0))
+        implies(each(i, &|j| get_or(l, j, 0) == get_or(m, j, 0)), || get_or(l, i, 0) <= get_or(m, i, 0))
     })
 }
 
@@ -74,16 +74,15 @@ pub fn ready(N: u64, pred: Relation, done: Test, c: u64) -> bool {
     !done(c) && !some(&|a| lacks(pred, done, c, a), N)
 }
 
-//|   unfoldable pub nextCall : (ℕ → Bool) → ℕ
-//|   nextCall done = leastFrom (ready done) N 0
+//|   unfoldable pub next_call : (ℕ → Bool) → ℕ
+//|   next_call done = least_from (ready done) N 0
 pub fn next_call(N: u64, pred: Relation, done: Test) -> u64 {
     least_from(&|c| ready(N, pred, done, c), N, 0)
 }
 
 //|   unfoldable pub sort : ℕ → (ℕ → Bool) → List ℕ
 //|   sort zero done = []
-//|   sort (suc n) done =
-//|     cond (ltb (nextCall done) N) (nextCall done ∷ sort n (add (nextCall done) done)) []
+//|   sort (suc n) done = cond (ltb (next_call done) N) (next_call done ∷ sort n (add (next_call done) done)) []
 pub fn sort(N: u64, pred: Relation, n: u64, done: Test) -> Vec<u64> {
     match n {
         0 => vec![],
@@ -133,15 +132,15 @@ pub fn upto(c: u64, list: &[u64]) -> Vec<u64> {
 }
 
 //| module _ (N : ℕ) (pred : ℕ → ℕ → Bool) (done : ℕ → Bool) where
-//|   unfoldable pub lowestBefore : ℕ → ℕ
-//|   lowestBefore c = leastFrom (lacks pred done c) N 0
+//|   unfoldable pub lowest_before : ℕ → ℕ
+//|   lowest_before c = least_from (lacks pred done c) N 0
 pub fn lowest_before(N: u64, pred: Relation, done: Test, c: u64) -> u64 {
     least_from(&|a| lacks(pred, done, c, a), N, 0)
 }
 
 //|   unfoldable pub walk : ℕ → List ℕ → ℕ → List ℕ
 //|   walk zero seen c = []
-//|   walk (suc n) seen c = cond (among seen c) (upto c seen) (walk n (c ∷ seen) (lowestBefore c))
+//|   walk (suc n) seen c = cond (among seen c) (upto c seen) (walk n (c ∷ seen) (lowest_before c))
 pub fn walk(N: u64, pred: Relation, done: Test, n: u64, seen: &[u64], c: u64) -> Vec<u64> {
     match n {
         0 => vec![],
@@ -156,14 +155,14 @@ pub fn walk(N: u64, pred: Relation, done: Test, n: u64, seen: &[u64], c: u64) ->
     }
 }
 
-//|   unfoldable pub lowestLeft : ℕ
-//|   lowestLeft = leastFrom (λ c. not (done c)) N 0
+//|   unfoldable pub lowest_left : ℕ
+//|   lowest_left = least_from (λ c. not (done c)) N 0
 pub fn lowest_left(N: u64, done: Test) -> u64 {
     least_from(&|c| !done(c), N, 0)
 }
 
 //|   unfoldable pub met : List ℕ
-//|   met = walk (suc N) [] lowestLeft
+//|   met = walk (suc N) [] lowest_left
 pub fn met(N: u64, pred: Relation, done: Test) -> Vec<u64> {
     walk(N, pred, done, N + 1, &[], lowest_left(N, done))
 }
@@ -176,20 +175,20 @@ pub fn turn(k: u64, l: &[u64]) -> Vec<u64> {
     append(drop(k, l), take(k, l))
 }
 
-//| unfoldable pub lowestOf : ℕ → List ℕ → ℕ
-//| lowestOf N l = leastFrom (among l) N 0
+//| unfoldable pub lowest_of : ℕ → List ℕ → ℕ
+//| lowest_of N l = least_from (among l) N 0
 pub fn lowest_of(N: u64, l: &[u64]) -> u64 {
     least_from(&|c| among(l, c), N, 0)
 }
 
-//| unfoldable pub lowestPlace : ℕ → List ℕ → ℕ
-//| lowestPlace N l = leastFrom (λ i. eqb (getD l i 0) (lowestOf N l)) (length l) 0
+//| unfoldable pub lowest_place : ℕ → List ℕ → ℕ
+//| lowest_place N l = least_from (λ i. eqb (get_or l i 0) (lowest_of N l)) (length l) 0
 pub fn lowest_place(N: u64, l: &[u64]) -> u64 {
-    least_from(&|i| get_d(l, i, 0) == lowest_of(N, l), length(l), 0)
+    least_from(&|i| get_or(l, i, 0) == lowest_of(N, l), length(l), 0)
 }
 
 //| unfoldable pub shown : (N : ℕ) (pred : ℕ → ℕ → Bool) → (ℕ → Bool) → List ℕ
-//| shown N pred done = turn (lowestPlace N (met N pred done)) (met N pred done)
+//| shown N pred done = turn (lowest_place N (met N pred done)) (met N pred done)
 pub fn shown(N: u64, pred: Relation, done: Test) -> Vec<u64> {
     let met = met(N, pred, done);
     turn(lowest_place(N, &met), &met)
@@ -199,8 +198,8 @@ pub fn shown(N: u64, pred: Relation, done: Test) -> Vec<u64> {
 
 //| module _ (N : ℕ) (pred : ℕ → ℕ → Bool) (done : ℕ → Bool) where
 //|   unfoldable pub visit : ℕ → ℕ
-//|   visit zero = lowestLeft N pred done
-//|   visit (suc i) = lowestBefore N pred done (visit i)
+//|   visit zero = lowest_left N pred done
+//|   visit (suc i) = lowest_before N pred done (visit i)
 pub fn visit(N: u64, pred: Relation, done: Test, i: u64) -> u64 {
     match i {
         0 => lowest_left(N, done),
@@ -247,9 +246,9 @@ pub fn seen(N: u64, pred: Relation, done: Test, i: u64) -> Vec<u64> {
 // ---- crates/orders/specs/Turned.antt
 
 //| abbrev pub Once : List ℕ → Type 0
-//| Once l = (i j : ℕ) → i < length l → j < length l → getD l i 0 ≡ getD l j 0 → i ≡ j
+//| Once l = (i j : ℕ) → i < length l → j < length l → get_or l i 0 ≡ get_or l j 0 → i ≡ j
 pub fn Once(l: &[u64]) -> bool {
-    let (long, at) = (length(l), |i| get_d(l, i, 0));
+    let (long, at) = (length(l), |i| get_or(l, i, 0));
     each(long, &|i| each(long, &|j| implies(at(i) == at(j), || i == j)))
 }
 
@@ -258,11 +257,11 @@ pub fn Once(l: &[u64]) -> bool {
 //| module _ (N : ℕ) (pred : ℕ → ℕ → Bool) where
 //|   pub record Shown (l : List ℕ) : Type 0 where
 //|     pub cycle : Cycle N pred l
-//|     pub lowest : (i : ℕ) → i < length l → getD l 0 0 ≤ getD l i 0
+//|     pub lowest : (i : ℕ) → i < length l → get_or l 0 0 ≤ get_or l i 0
 //|     pub once : Once l
 pub fn Shown(N: u64, pred: Relation, l: &[u64]) -> bool {
     let cycle = Cycle(N, pred, l);
-    let lowest = each(length(l), &|i| get_d(l, 0, 0) <= get_d(l, i, 0));
+    let lowest = each(length(l), &|i| get_or(l, 0, 0) <= get_or(l, i, 0));
     let once = Once(l);
     cycle && lowest && once
 }

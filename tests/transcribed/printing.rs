@@ -3,7 +3,7 @@ use super::calls::call_in;
 use super::calls::Call::{self, Get, NoCall, Set, Step};
 use super::grammar::opening::Row;
 use super::grammar::rows::{ascii, word, LF, TAB};
-use super::library::{append, cons, get_d, length};
+use super::library::{append, cons, get_or, length};
 use super::pen::decimal;
 use super::table::{outcome, Outcome};
 
@@ -23,33 +23,30 @@ pub fn printed(fields: &[Vec<u64>]) -> Vec<u64> {
 
 // ---- crates/printing/specs/Entries.antt
 
-//| unfoldable pub refusalText : ℕ → ℕ → List ℕ
-//| refusalText n k = printed (ascii "refused" ∷ decimal n ∷ decimal k ∷ [])
+//| unfoldable pub refusal_text : ℕ → ℕ → List ℕ
+//| refusal_text n k = printed (ascii "refused" ∷ decimal n ∷ decimal k ∷ [])
 pub fn refusal_text(n: u64, k: u64) -> Vec<u64> {
     printed(&[ascii("refused"), decimal(n), decimal(k)])
 }
 
 //| module _ (units outputs inputs : List (List (List ℕ))) where
 //|   unfoldable pub entry : ℕ → Call → List ℕ
-//|   entry k (Step u) =
-//|     let f = getD units u [] in printed (decimal k ∷ ascii "step" ∷ word f 1 ∷ ascii "-" ∷ [])
-//|   entry k (Get y) =
-//|     let f = getD outputs y [] in printed (decimal k ∷ ascii "get" ∷ word f 1 ∷ word f 2 ∷ [])
-//|   entry k (Set x) =
-//|     let f = getD inputs x [] in printed (decimal k ∷ ascii "set" ∷ word f 1 ∷ word f 2 ∷ [])
+//|   entry k (Step u) = let f = get_or units u [] in printed (decimal k ∷ ascii "step" ∷ word f 1 ∷ ascii "-" ∷ [])
+//|   entry k (Get y) = let f = get_or outputs y [] in printed (decimal k ∷ ascii "get" ∷ word f 1 ∷ word f 2 ∷ [])
+//|   entry k (Set x) = let f = get_or inputs x [] in printed (decimal k ∷ ascii "set" ∷ word f 1 ∷ word f 2 ∷ [])
 //|   entry k NoCall = []
 pub fn entry(units: &[Row], outputs: &[Row], inputs: &[Row], k: u64, call: Call) -> Vec<u64> {
     match call {
         Step(u) => {
-            let f = get_d(units, u, vec![]);
+            let f = get_or(units, u, vec![]);
             printed(&[decimal(k), ascii("step"), word(&f, 1), ascii("-")])
         }
         Get(y) => {
-            let f = get_d(outputs, y, vec![]);
+            let f = get_or(outputs, y, vec![]);
             printed(&[decimal(k), ascii("get"), word(&f, 1), word(&f, 2)])
         }
         Set(x) => {
-            let f = get_d(inputs, x, vec![]);
+            let f = get_or(inputs, x, vec![]);
             printed(&[decimal(k), ascii("set"), word(&f, 1), word(&f, 2)])
         }
         NoCall => vec![],
@@ -58,8 +55,7 @@ pub fn entry(units: &[Row], outputs: &[Row], inputs: &[Row], k: u64, call: Call)
 
 //|   unfoldable pub entries : ℕ → List ℕ → List ℕ
 //|   entries k [] = []
-//|   entries k (c ∷ cs) =
-//|     entry k (callIn (length units) (length outputs) (length inputs) c) ++ entries (suc k) cs
+//|   entries k (c ∷ cs) = entry k (call_in (length units) (length outputs) (length inputs) c) ++ entries (suc k) cs
 pub fn entries(units: &[Row], outputs: &[Row], inputs: &[Row], k: u64, calls: &[u64]) -> Vec<u64> {
     match calls {
         [] => vec![],
@@ -73,8 +69,8 @@ pub fn entries(units: &[Row], outputs: &[Row], inputs: &[Row], k: u64, calls: &[
     }
 }
 
-//|   unfoldable pub callsText : List ℕ → List ℕ → List ℕ
-//|   callsText w cs = printed (w ∷ decimal (length cs) ∷ []) ++ entries 0 cs
+//|   unfoldable pub calls_text : List ℕ → List ℕ → List ℕ
+//|   calls_text w cs = printed (w ∷ decimal (length cs) ∷ []) ++ entries 0 cs
 pub fn calls_text(
     units: &[Row],
     outputs: &[Row],
@@ -85,11 +81,11 @@ pub fn calls_text(
     append(&printed(&[w, decimal(length(cs))]), &entries(units, outputs, inputs, 0, cs))
 }
 
-//|   unfoldable pub outcomeText : Outcome → List ℕ
-//|   outcomeText o =
-//|       cond (eqb (o .answer .number) 0) (callsText (ascii "order") (o .bytes))
-//|       (cond (eqb (o .answer .number) 9) (callsText (ascii "cycle") (o .bytes))
-//|       (refusalText (o .answer .number) (o .answer .place)))
+//|   unfoldable pub outcome_text : Outcome → List ℕ
+//|   outcome_text o =
+//|       cond (eqb o.answer.number 0) (calls_text (ascii "order") o.bytes)
+//|       (cond (eqb o.answer.number 9) (calls_text (ascii "cycle") o.bytes)
+//|       (refusal_text o.answer.number o.answer.place))
 pub fn outcome_text(units: &[Row], outputs: &[Row], inputs: &[Row], o: &Outcome) -> Vec<u64> {
     if o.answer.number == 0 {
         calls_text(units, outputs, inputs, ascii("order"), &o.bytes)

@@ -4,68 +4,68 @@ use super::grammar::lines::{kind_of, line};
 use super::grammar::opening::{lines_of, Row};
 use super::grammar::reading::{pairs, Reading};
 use super::grammar::rows::{ascii, first_bad, line_of, place, rows, same, times, word, LF};
-use super::library::{append, cons, drop, each, get_d, implies, length};
+use super::library::{append, cons, drop, each, get_or, implies, length};
 use super::table::Shape;
 
 // ---- crates/reading/specs/Numbers.antt
 
-//| unfoldable pub unitNumber : List Row → List ℕ → ℕ
-//| unitNumber fs n = place (λ f. same (word f 1) n) (linesOf fs (ascii "unit"))
+//| unfoldable pub unit_number : List Row → List ℕ → ℕ
+//| unit_number fs n = place (λ f. same (word f 1) n) (lines_of fs (ascii "unit"))
 pub fn unit_number(fs: &[Row], n: &[u64]) -> u64 {
     place(&|f: &Row| same(&word(f, 1), n), &lines_of(fs, &ascii("unit")))
 }
 
-//| unfoldable pub portNumber : List ℕ → List Row → List ℕ → List ℕ → ℕ
-//| portNumber w fs u n = place (λ f. same (word f 1) u && same (word f 2) n) (linesOf fs w)
+//| unfoldable pub port_number : List ℕ → List Row → List ℕ → List ℕ → ℕ
+//| port_number w fs u n = place (λ f. same (word f 1) u && same (word f 2) n) (lines_of fs w)
 pub fn port_number(w: &[u64], fs: &[Row], u: &[u64], n: &[u64]) -> u64 {
     place(&|f: &Row| same(&word(f, 1), u) && same(&word(f, 2), n), &lines_of(fs, w))
 }
 
-//| abbrev pub outputNumber : List Row → List ℕ → List ℕ → ℕ
-//| outputNumber = portNumber (ascii "out")
+//| abbrev pub output_number : List Row → List ℕ → List ℕ → ℕ
+//| output_number = port_number (ascii "out")
 pub fn output_number(fs: &[Row], u: &[u64], n: &[u64]) -> u64 {
     port_number(&ascii("out"), fs, u, n)
 }
 
-//| abbrev pub inputNumber : List Row → List ℕ → List ℕ → ℕ
-//| inputNumber = portNumber (ascii "in")
+//| abbrev pub input_number : List Row → List ℕ → List ℕ → ℕ
+//| input_number = port_number (ascii "in")
 pub fn input_number(fs: &[Row], u: &[u64], n: &[u64]) -> u64 {
     port_number(&ascii("in"), fs, u, n)
 }
 
-//| unfoldable pub joinPlace : List Row → List ℕ → List ℕ → ℕ
-//| joinPlace fs u n = place (λ f. same (word f 3) u && same (word f 4) n) (linesOf fs (ascii "join"))
+//| unfoldable pub join_place : List Row → List ℕ → List ℕ → ℕ
+//| join_place fs u n = place (λ f. same (word f 3) u && same (word f 4) n) (lines_of fs (ascii "join"))
 pub fn join_place(fs: &[Row], u: &[u64], n: &[u64]) -> u64 {
     let joins = lines_of(fs, &ascii("join"));
     place(&|f: &Row| same(&word(f, 3), u) && same(&word(f, 4), n), &joins)
 }
 
-//| unfoldable pub joinOf : List Row → List ℕ → List ℕ → Row
-//| joinOf fs u n = getD (linesOf fs (ascii "join")) (joinPlace fs u n) []
+//| unfoldable pub join_of : List Row → List ℕ → List ℕ → Row
+//| join_of fs u n = get_or (lines_of fs (ascii "join")) (join_place fs u n) []
 pub fn join_of(fs: &[Row], u: &[u64], n: &[u64]) -> Row {
-    get_d(&lines_of(fs, &ascii("join")), join_place(fs, u, n), vec![])
+    get_or(&lines_of(fs, &ascii("join")), join_place(fs, u, n), vec![])
 }
 
-//| unfoldable pub sourceNumber : List Row → List ℕ → List ℕ → ℕ
-//| sourceNumber fs u n = outputNumber fs (word (joinOf fs u n) 1) (word (joinOf fs u n) 2)
+//| unfoldable pub source_number : List Row → List ℕ → List ℕ → ℕ
+//| source_number fs u n = output_number fs (word (join_of fs u n) 1) (word (join_of fs u n) 2)
 pub fn source_number(fs: &[Row], u: &[u64], n: &[u64]) -> u64 {
     let join = join_of(fs, u, n);
     output_number(fs, &word(&join, 1), &word(&join, 2))
 }
 
-//| unfoldable pub isLoose : List Row → Row → Bool
-//| isLoose fs f =
+//| unfoldable pub is_loose : List Row → Row → Bool
+//| is_loose fs f =
 //|     same (word f 0) (ascii "in")
-//|     && leb (length (linesOf fs (ascii "join"))) (joinPlace fs (word f 1) (word f 2))
+//|     && leb (length (lines_of fs (ascii "join"))) (join_place fs (word f 1) (word f 2))
 pub fn is_loose(fs: &[Row], f: &Row) -> bool {
     same(&word(f, 0), &ascii("in"))
         && length(&lines_of(fs, &ascii("join"))) <= join_place(fs, &word(f, 1), &word(f, 2))
 }
 
-//| unfoldable pub feedNumbers : List Row → Row → Feed
-//| feedNumbers fs f = record {
-//|   input = inputNumber fs (word f 1) (word f 2);
-//|   output = outputNumber fs (word f 1) (word f 3);
+//| unfoldable pub feed_numbers : List Row → Row → Feed
+//| feed_numbers fs f = record {
+//|   input = input_number fs (word f 1) (word f 2);
+//|   output = output_number fs (word f 1) (word f 3);
 //| }
 pub fn feed_numbers(fs: &[Row], f: &Row) -> Feed {
     Feed {
@@ -76,15 +76,14 @@ pub fn feed_numbers(fs: &[Row], f: &Row) -> Feed {
 
 //| unfoldable pub numbered : List Row → List ℕ
 //| numbered fs =
-//|     let units = linesOf fs (ascii "unit") in
-//|     let outputs = linesOf fs (ascii "out") in
-//|     let inputs = linesOf fs (ascii "in") in
-//|     let feeds = linesOf fs (ascii "feed") in
+//|     let units = lines_of fs (ascii "unit") in
+//|     let outputs = lines_of fs (ascii "out") in
+//|     let inputs = lines_of fs (ascii "in") in
+//|     let feeds = lines_of fs (ascii "feed") in
 //|     length units ∷ (length outputs ∷ (length inputs ∷ (length feeds ∷
-//|     (map (λ f. unitNumber fs (word f 1)) outputs ++ (map (λ f. unitNumber fs (word f 1)) inputs
-//|     ++ (map (λ f. kindOf (word f 3)) inputs
-//|     ++ (map (λ f. sourceNumber fs (word f 1) (word f 2)) inputs
-//|     ++ pairs (map (feedNumbers fs) feeds))))))))
+//|     (map (λ f. unit_number fs (word f 1)) outputs ++ (map (λ f. unit_number fs (word f 1)) inputs
+//|     ++ (map (λ f. kind_of (word f 3)) inputs ++ (map (λ f. source_number fs (word f 1) (word f 2)) inputs
+//|     ++ pairs (map (feed_numbers fs) feeds))))))))
 pub fn numbered(fs: &[Row]) -> Vec<u64> {
     let units = lines_of(fs, &ascii("unit"));
     let outputs = lines_of(fs, &ascii("out"));
@@ -105,22 +104,22 @@ pub fn numbered(fs: &[Row]) -> Vec<u64> {
 // ---- crates/reading/specs/InOrder.antt
 
 //| pub record InOrder (fs : List Row) (s : Shape) : Type 0 where
-//|   pub unit-lines : s .units ≡ length (linesOf fs (ascii "unit"))
-//|   pub output-lines : s .outputs ≡ length (linesOf fs (ascii "out"))
-//|   pub input-lines : s .inputs ≡ length (linesOf fs (ascii "in"))
-//|   pub feed-lines : s .feeds ≡ length (linesOf fs (ascii "feed"))
-//|   pub output-owner : (y : ℕ) → y < s .outputs → let f = getD (linesOf fs (ascii "out")) y [] in
-//|       s .outputOwner y ≡ unitNumber fs (word f 1)
-//|   pub input-owner : (x : ℕ) → x < s .inputs → let f = getD (linesOf fs (ascii "in")) x [] in
-//|       s .inputOwner x ≡ unitNumber fs (word f 1)
-//|   pub input-kind : (x : ℕ) → x < s .inputs → let f = getD (linesOf fs (ascii "in")) x [] in
-//|       s .kind x ≡ kindOf (word f 3)
-//|   pub input-source : (x : ℕ) → x < s .inputs → let f = getD (linesOf fs (ascii "in")) x [] in
-//|       s .source x ≡ sourceNumber fs (word f 1) (word f 2)
-//|   pub feed-input : (k : ℕ) → k < s .feeds → let f = getD (linesOf fs (ascii "feed")) k [] in
-//|       s .feedInput k ≡ inputNumber fs (word f 1) (word f 2)
-//|   pub feed-output : (k : ℕ) → k < s .feeds → let f = getD (linesOf fs (ascii "feed")) k [] in
-//|       s .feedOutput k ≡ outputNumber fs (word f 1) (word f 3)
+//|   pub unit_lines : s.units ≡ length (lines_of fs (ascii "unit"))
+//|   pub output-lines : s.outputs ≡ length (lines_of fs (ascii "out"))
+//|   pub input-lines : s.inputs ≡ length (lines_of fs (ascii "in"))
+//|   pub feed-lines : s.feeds ≡ length (lines_of fs (ascii "feed"))
+//|   pub output-owner : (y : ℕ) → y < s.outputs → let f = get_or (lines_of fs (ascii "out")) y [] in
+//|       s.output_owner y ≡ unit_number fs (word f 1)
+//|   pub input-owner : (x : ℕ) → x < s.inputs → let f = get_or (lines_of fs (ascii "in")) x [] in
+//|       s.input_owner x ≡ unit_number fs (word f 1)
+//|   pub input-kind : (x : ℕ) → x < s.inputs → let f = get_or (lines_of fs (ascii "in")) x [] in
+//|       s.kind x ≡ kind_of (word f 3)
+//|   pub input-source : (x : ℕ) → x < s.inputs → let f = get_or (lines_of fs (ascii "in")) x [] in
+//|       s.source x ≡ source_number fs (word f 1) (word f 2)
+//|   pub feed-input : (k : ℕ) → k < s.feeds → let f = get_or (lines_of fs (ascii "feed")) k [] in
+//|       s.feed_input k ≡ input_number fs (word f 1) (word f 2)
+//|   pub feed-output : (k : ℕ) → k < s.feeds → let f = get_or (lines_of fs (ascii "feed")) k [] in
+//|       s.feed_output k ≡ output_number fs (word f 1) (word f 3)
 pub fn InOrder(fs: &[Row], s: &Shape) -> bool {
     let [units, outputs, inputs, feeds] =
         ["unit", "out", "in", "feed"].map(|w| lines_of(fs, &ascii(w)));
@@ -129,27 +128,27 @@ pub fn InOrder(fs: &[Row], s: &Shape) -> bool {
     let input_lines = s.inputs == length(&inputs);
     let feed_lines = s.feeds == length(&feeds);
     let output_owner = each(s.outputs, &|y| {
-        let f = get_d(&outputs, y, vec![]);
+        let f = get_or(&outputs, y, vec![]);
         (s.output_owner)(y) == unit_number(fs, &word(&f, 1))
     });
     let input_owner = each(s.inputs, &|x| {
-        let f = get_d(&inputs, x, vec![]);
+        let f = get_or(&inputs, x, vec![]);
         (s.input_owner)(x) == unit_number(fs, &word(&f, 1))
     });
     let input_kind = each(s.inputs, &|x| {
-        let f = get_d(&inputs, x, vec![]);
+        let f = get_or(&inputs, x, vec![]);
         (s.kind)(x) == kind_of(&word(&f, 3))
     });
     let input_source = each(s.inputs, &|x| {
-        let f = get_d(&inputs, x, vec![]);
+        let f = get_or(&inputs, x, vec![]);
         (s.source)(x) == source_number(fs, &word(&f, 1), &word(&f, 2))
     });
     let feed_input = each(s.feeds, &|k| {
-        let f = get_d(&feeds, k, vec![]);
+        let f = get_or(&feeds, k, vec![]);
         (s.feed_input)(k) == input_number(fs, &word(&f, 1), &word(&f, 2))
     });
     let feed_output = each(s.feeds, &|k| {
-        let f = get_d(&feeds, k, vec![]);
+        let f = get_or(&feeds, k, vec![]);
         (s.feed_output)(k) == output_number(fs, &word(&f, 1), &word(&f, 3))
     });
     let counts = unit_lines && output_lines && input_lines && feed_lines;
@@ -158,11 +157,10 @@ pub fn InOrder(fs: &[Row], s: &Shape) -> bool {
 
 // ---- crates/reading/specs/WhichLine.antt
 
-//| unfoldable pub lineCount : List ℕ → ℕ
-//| lineCount t =
-//|   cond (eqb (length t) 0 || eqb (getD t (length t - 1) 0) lf) (times lf t) (suc (times lf t))
+//| unfoldable pub line_count : List ℕ → ℕ
+//| line_count t = cond (eqb (length t) 0 || eqb (get_or t (length t - 1) 0) lf) (times lf t) (suc (times lf t))
 pub fn line_count(t: &[u64]) -> u64 {
-    if length(t) == 0 || get_d(t, length(t).saturating_sub(1), 0) == LF {
+    if length(t) == 0 || get_or(t, length(t).saturating_sub(1), 0) == LF {
         times(LF, t)
     } else {
         times(LF, t) + 1
@@ -171,7 +169,7 @@ pub fn line_count(t: &[u64]) -> u64 {
 
 //| unfoldable pub refusals : Draft → ℕ → List Row → List ℕ
 //| refusals d k [] = []
-//| refusals d k (f ∷ fs) = line d k f .number ∷ refusals (line d k f .draft) (suc k) fs
+//| refusals d k (f ∷ fs) = (line d k f).number ∷ refusals (line d k f).draft (suc k) fs
 pub fn refusals(d: &Draft, k: u64, rows: &[Row]) -> Vec<u64> {
     match rows {
         [] => vec![],
@@ -183,15 +181,15 @@ pub fn refusals(d: &Draft, k: u64, rows: &[Row]) -> Vec<u64> {
 }
 
 //| pub record Lined (t : List ℕ) (r : Reading) : Type 0 where
-//|   pub none : (r .place ≡ 0) ↔ ((r .number ≡ 20) ⊎ (r .number ≡ 34))
-//|   pub within : r .place ≤ lineCount t
-//|   pub last : r .number ≡ 21 → r .place ≡ lineCount t
-//|   pub byte : r .number ≡ 22 → r .place ≡ lineOf t (firstBad t)
-//|   pub first : (r .number ≡ 23) ⊎ (r .number ≡ 33) → r .place ≡ 1
-//|   pub loose : r .number ≡ 31 → r .place ≡ suc (place (isLoose (rows t)) (rows t))
-//|   pub refused : 24 ≤ r .number → r .number ≤ 32 → (r .number ≡ 31 → ⊥)
+//|   pub none : (r.place ≡ 0) ↔ ((r.number ≡ 20) ⊎ (r.number ≡ 34))
+//|   pub within : r.place ≤ line_count t
+//|   pub last : r.number ≡ 21 → r.place ≡ line_count t
+//|   pub byte : r.number ≡ 22 → r.place ≡ line_of t (first_bad t)
+//|   pub first : (r.number ≡ 23) ⊎ (r.number ≡ 33) → r.place ≡ 1
+//|   pub loose : r.number ≡ 31 → r.place ≡ suc (place (is_loose (rows t)) (rows t))
+//|   pub refused : 24 ≤ r.number → r.number ≤ 32 → (r.number ≡ 31 → ⊥)
 //|       → let numbers = refusals blank 2 (drop 1 (rows t)) in let i = place (λ n. not (eqb n 0)) numbers in
-//|       (r .place ≡ 2 + i) × (r .number ≡ getD numbers i 0)
+//|       (r.place ≡ 2 + i) × (r.number ≡ get_or numbers i 0)
 pub fn Lined(t: &[u64], r: &Reading) -> bool {
     let none = (r.place == 0) == (r.number == 20 || r.number == 34);
     let within = r.place <= line_count(t);
@@ -205,7 +203,7 @@ pub fn Lined(t: &[u64], r: &Reading) -> bool {
     let refused = implies(24 <= r.number && r.number <= 32 && r.number != 31, || {
         let numbers = refusals(&blank(), 2, drop(1, &rows(t)));
         let i = place(&|n: &u64| !(*n == 0), &numbers);
-        r.place == 2 + i && r.number == get_d(&numbers, i, 0)
+        r.place == 2 + i && r.number == get_or(&numbers, i, 0)
     });
     none && within && last && byte && first && loose && refused
 }

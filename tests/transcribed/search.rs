@@ -17,9 +17,9 @@ pub fn add(c: u64, q: Test, x: u64) -> bool {
 
 // ---- crates/search/specs/Least.antt
 
-//| unfoldable pub leastFrom : (ℕ → Bool) → ℕ → ℕ → ℕ
-//| leastFrom q zero k = k
-//| leastFrom q (suc n) k = elim (q k) [ true ↦ k | false ↦ leastFrom q n (suc k) ]
+//| unfoldable pub least_from : (ℕ → Bool) → ℕ → ℕ → ℕ
+//| least_from q zero k = k
+//| least_from q (suc n) k = elim (q k) [ true ↦ k | false ↦ least_from q n (suc k) ]
 pub fn least_from(q: Test, n: u64, k: u64) -> u64 {
     match n {
         0 => k,
@@ -56,47 +56,47 @@ pub fn fronted(bytes: &[u64], out: &[u64]) -> Vec<u64> {
     append(bytes, drop(length(bytes), out))
 }
 
-// ---- crates/search/specs/Contracts.antt
+// ---- crates/search/specs/Settling.antt
 
-//| module _ {n : ℕ} (ps : List (PK n)) (r : RK n) where
+//| module _ {n : ℕ} (ps : List (ParamKind n)) (r : ResultKind n) where
 //|   abbrev pub SettlesSeen : In n ps → Out n ps r → {B : Lfts n → Type 0}
-//|       → ((κs : Lfts n) → resT r κs .Denot → B κs) → Type 0
+//|       → ((κs : Lfts n) → (res_t r κs).Denot → B κs) → Type 0
 //|   SettlesSeen asked learnt see =
 //|       ((κs : Lfts n) (a : Dens κs ps) → asked κs a)
-//|       × ((κs : Lfts n) (a : Dens κs ps) (x y : resT r κs .Denot) (w v : Lasts (endedOf n ps r) κs a)
-//|       → learnt κs a x (atExit (endedOf n ps r) κs a w)
-//|       → learnt κs a y (atExit (endedOf n ps r) κs a v) → (see κs x ≡ see κs y) × (w ≡ v))
+//|       × ((κs : Lfts n) (a : Dens κs ps) (x y : (res_t r κs).Denot) (w v : Lasts (ended_of n ps r) κs a)
+//|       → learnt κs a x (at_exit (ended_of n ps r) κs a w)
+//|       → learnt κs a y (at_exit (ended_of n ps r) κs a v) → (see κs x ≡ see κs y) × (w ≡ v))
 // Not computed.
 
 //|   abbrev pub Settles : In n ps → Out n ps r → Type 0
-//|   Settles asked learnt = SettlesSeen asked learnt {B = λ κs. resT r κs .Denot} (λ κs x. x)
+//|   Settles asked learnt = SettlesSeen asked learnt {B = λ κs. (res_t r κs).Denot} (λ κs x. x)
 // Not computed.
 
 //|   abbrev pub SettlesWhere : In n ps → Out n ps r → {B : Lfts n → Type 0}
-//|       → ((κs : Lfts n) → resT r κs .Denot → B κs) → Type 0
+//|       → ((κs : Lfts n) → (res_t r κs).Denot → B κs) → Type 0
 //|   SettlesWhere asked learnt see =
 //|       (κs : Lfts n) (a : Dens κs ps) → asked κs a
-//|       → (x y : resT r κs .Denot) (w v : Lasts (endedOf n ps r) κs a)
-//|       → learnt κs a x (atExit (endedOf n ps r) κs a w)
-//|       → learnt κs a y (atExit (endedOf n ps r) κs a v) → (see κs x ≡ see κs y) × (w ≡ v)
+//|       → (x y : (res_t r κs).Denot) (w v : Lasts (ended_of n ps r) κs a)
+//|       → learnt κs a x (at_exit (ended_of n ps r) κs a w)
+//|       → learnt κs a y (at_exit (ended_of n ps r) κs a v) → (see κs x ≡ see κs y) × (w ≡ v)
 // Not computed.
 
 //|   abbrev pub Says : Out n ps r
-//|       → ((κs : Lfts n) (a : Dens κs ps) → resT r κs .Denot → Lasts (endedOf n ps r) κs a → Type 0) → Type 0
+//|       → ((κs : Lfts n) (a : Dens κs ps) → (res_t r κs).Denot → Lasts (ended_of n ps r) κs a → Type 0) → Type 0
 //|   Says learnt claim =
-//|       (κs : Lfts n) (a : Dens κs ps) (x : resT r κs .Denot) (w : Lasts (endedOf n ps r) κs a)
-//|       → learnt κs a x (atExit (endedOf n ps r) κs a w) → claim κs a x w
+//|       (κs : Lfts n) (a : Dens κs ps) (x : (res_t r κs).Denot) (w : Lasts (ended_of n ps r) κs a)
+//|       → learnt κs a x (at_exit (ended_of n ps r) κs a w) → claim κs a x w
 // Not computed.
 
-//| abbrev pub SettlesClauses : (T : Ended) → ((m : World) → Clauses (m .𝓤) T) → Type 2
+//| abbrev pub SettlesClauses : (T : Ended) → ((m : World) → Clauses m.𝓤 T) → Type 2
 //| SettlesClauses T clauses =
-//|     ((m : World) (κs : Lfts (T .signature .lifetimes)) (a : Args (T .signature) κs) → clauses m κs a .ghost)
-//|     × ((m : World) (κs : Lfts (T .signature .lifetimes)) (a : Args (T .signature) κs) (g : clauses m κs a .ghost)
-//|     → ent (m .𝓤) (emp (m .𝓤)) (clauses m κs a .requires g))
-//|     × (says : (κs : Lfts (T .signature .lifetimes)) (a : Args (T .signature) κs) → Res (T .signature) κs → Lasts T κs a → Type 0)
-//|     × ((m : World) (κs : Lfts (T .signature .lifetimes)) (a : Args (T .signature) κs) (g : clauses m κs a .ghost)
-//|     (x : Res (T .signature) κs) (w : Lasts T κs a)
-//|     → ent (m .𝓤) (clauses m κs a .ensures g x (atExit T κs a w)) (fact (m .𝓤) (says κs a x w)))
-//|     × ((κs : Lfts (T .signature .lifetimes)) (a : Args (T .signature) κs) (x y : Res (T .signature) κs) (w v : Lasts T κs a)
+//|     ((m : World) (κs : Lfts T.signature.lifetimes) (a : Args T.signature κs) → (clauses m κs a).ghost)
+//|     × ((m : World) (κs : Lfts T.signature.lifetimes) (a : Args T.signature κs) (g : (clauses m κs a).ghost)
+//|     → ent m.𝓤 (emp m.𝓤) ((clauses m κs a).requires g))
+//|     × (says : (κs : Lfts T.signature.lifetimes) (a : Args T.signature κs) → Res T.signature κs → Lasts T κs a → Type 0)
+//|     × ((m : World) (κs : Lfts T.signature.lifetimes) (a : Args T.signature κs) (g : (clauses m κs a).ghost)
+//|     (x : Res T.signature κs) (w : Lasts T κs a)
+//|     → ent m.𝓤 ((clauses m κs a).ensures g x (at_exit T κs a w)) (fact m.𝓤 (says κs a x w)))
+//|     × ((κs : Lfts T.signature.lifetimes) (a : Args T.signature κs) (x y : Res T.signature κs) (w v : Lasts T κs a)
 //|     → says κs a x w → says κs a y v → (x ≡ y) × (w ≡ v))
 // Not computed.

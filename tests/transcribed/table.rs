@@ -1,5 +1,5 @@
 // The packed table: its parts, what is sound, the check, an answer with the bytes it writes.
-use super::library::{drop, each, get_d, length, take};
+use super::library::{drop, each, get_or, length, take};
 use super::search::{every, some};
 use std::rc::Rc;
 
@@ -22,12 +22,12 @@ pub struct Answer {
 //|   pub outputs : ℕ
 //|   pub inputs : ℕ
 //|   pub feeds : ℕ
-//|   pub outputOwner : ℕ → ℕ
-//|   pub inputOwner : ℕ → ℕ
+//|   pub output_owner : ℕ → ℕ
+//|   pub input_owner : ℕ → ℕ
 //|   pub kind : ℕ → ℕ
 //|   pub source : ℕ → ℕ
-//|   pub feedInput : ℕ → ℕ
-//|   pub feedOutput : ℕ → ℕ
+//|   pub feed_input : ℕ → ℕ
+//|   pub feed_output : ℕ → ℕ
 #[derive(Clone)]
 pub struct Shape<'a> {
     pub units: u64,
@@ -43,22 +43,21 @@ pub struct Shape<'a> {
 }
 
 //| abbrev pub total : Shape → ℕ
-//| total s = s .units + s .outputs + s .inputs
+//| total s = s.units + s.outputs + s.inputs
 pub fn total(s: &Shape) -> u64 {
     s.units + s.outputs + s.inputs
 }
 
 //| pub record Wired (s : Shape) : Type 0 where
-//|   pub output-owned : (y : ℕ) → y < s .outputs → s .outputOwner y < s .units
-//|   pub input-owned : (x : ℕ) → x < s .inputs → s .inputOwner x < s .units
-//|   pub kind-known : (x : ℕ) → x < s .inputs → s .kind x ≤ 1
-//|   pub sourced : (x : ℕ) → x < s .inputs → s .source x < s .outputs
-//|   pub feed-input : (k : ℕ) → k < s .feeds → s .feedInput k < s .inputs
-//|   pub feed-output : (k : ℕ) → k < s .feeds → s .feedOutput k < s .outputs
-//|   pub feed-unit : (k : ℕ) → k < s .feeds
-//|       → s .inputOwner (s .feedInput k) ≡ s .outputOwner (s .feedOutput k)
-//|   pub feed-once : (j k : ℕ) → j < k → k < s .feeds
-//|       → s .feedInput j ≡ s .feedInput k → s .feedOutput j ≡ s .feedOutput k → ⊥
+//|   pub output-owned : (y : ℕ) → y < s.outputs → s.output_owner y < s.units
+//|   pub input-owned : (x : ℕ) → x < s.inputs → s.input_owner x < s.units
+//|   pub kind-known : (x : ℕ) → x < s.inputs → s.kind x ≤ 1
+//|   pub sourced : (x : ℕ) → x < s.inputs → s.source x < s.outputs
+//|   pub feed-input : (k : ℕ) → k < s.feeds → s.feed_input k < s.inputs
+//|   pub feed-output : (k : ℕ) → k < s.feeds → s.feed_output k < s.outputs
+//|   pub feed-unit : (k : ℕ) → k < s.feeds → s.input_owner (s.feed_input k) ≡ s.output_owner (s.feed_output k)
+//|   pub feed-once : (j k : ℕ) → j < k → k < s.feeds
+//|       → s.feed_input j ≡ s.feed_input k → s.feed_output j ≡ s.feed_output k → ⊥
 pub fn Wired(s: &Shape) -> bool {
     let (input, output) = (&s.feed_input, &s.feed_output);
     let output_owned = each(s.outputs, &|y| (s.output_owner)(y) < s.units);
@@ -83,27 +82,27 @@ pub fn Wired(s: &Shape) -> bool {
 // ---- crates/table/specs/Packed.antt
 
 //| unfoldable pub units : List ℕ → ℕ
-//| units t = getD t 0 0
+//| units t = get_or t 0 0
 pub fn units(t: &[u64]) -> u64 {
-    get_d(t, 0, 0)
+    get_or(t, 0, 0)
 }
 
 //| unfoldable pub outputs : List ℕ → ℕ
-//| outputs t = getD t 1 0
+//| outputs t = get_or t 1 0
 pub fn outputs(t: &[u64]) -> u64 {
-    get_d(t, 1, 0)
+    get_or(t, 1, 0)
 }
 
 //| unfoldable pub inputs : List ℕ → ℕ
-//| inputs t = getD t 2 0
+//| inputs t = get_or t 2 0
 pub fn inputs(t: &[u64]) -> u64 {
-    get_d(t, 2, 0)
+    get_or(t, 2, 0)
 }
 
 //| unfoldable pub feeds : List ℕ → ℕ
-//| feeds t = getD t 3 0
+//| feeds t = get_or t 3 0
 pub fn feeds(t: &[u64]) -> u64 {
-    get_d(t, 3, 0)
+    get_or(t, 3, 0)
 }
 
 //| abbrev pub part : List ℕ → ℕ → ℕ → List ℕ
@@ -112,14 +111,14 @@ pub fn part(t: &[u64], a: u64, n: u64) -> &[u64] {
     take(n, drop(a, t))
 }
 
-//| unfoldable pub outputOwners : List ℕ → List ℕ
-//| outputOwners t = part t 4 (outputs t)
+//| unfoldable pub output_owners : List ℕ → List ℕ
+//| output_owners t = part t 4 (outputs t)
 pub fn output_owners(t: &[u64]) -> &[u64] {
     part(t, 4, outputs(t))
 }
 
-//| unfoldable pub inputOwners : List ℕ → List ℕ
-//| inputOwners t = part t (4 + outputs t) (inputs t)
+//| unfoldable pub input_owners : List ℕ → List ℕ
+//| input_owners t = part t (4 + outputs t) (inputs t)
 pub fn input_owners(t: &[u64]) -> &[u64] {
     part(t, 4 + outputs(t), inputs(t))
 }
@@ -142,16 +141,16 @@ pub fn pairs(t: &[u64]) -> &[u64] {
     part(t, 4 + outputs(t) + 3 * inputs(t), 2 * feeds(t))
 }
 
-//| abbrev pub pairInput : List ℕ → ℕ → ℕ
-//| pairInput ps k = getD ps (2 * k) 0
+//| abbrev pub pair_input : List ℕ → ℕ → ℕ
+//| pair_input ps k = get_or ps (2 * k) 0
 pub fn pair_input(ps: &[u64], k: u64) -> u64 {
-    get_d(ps, 2 * k, 0)
+    get_or(ps, 2 * k, 0)
 }
 
-//| abbrev pub pairOutput : List ℕ → ℕ → ℕ
-//| pairOutput ps k = getD ps (2 * k + 1) 0
+//| abbrev pub pair_output : List ℕ → ℕ → ℕ
+//| pair_output ps k = get_or ps (2 * k + 1) 0
 pub fn pair_output(ps: &[u64], k: u64) -> u64 {
-    get_d(ps, 2 * k + 1, 0)
+    get_or(ps, 2 * k + 1, 0)
 }
 
 //| unfoldable pub asked : List ℕ → ℕ
@@ -160,18 +159,18 @@ pub fn asked(t: &[u64]) -> u64 {
     4 + outputs(t) + 3 * inputs(t) + 2 * feeds(t)
 }
 
-//| abbrev pub shapeOf : List ℕ → Shape
-//| shapeOf t = record {
+//| abbrev pub shape_of : List ℕ → Shape
+//| shape_of t = record {
 //|   units = units t;
 //|   outputs = outputs t;
 //|   inputs = inputs t;
 //|   feeds = feeds t;
-//|   outputOwner = λ y. getD (outputOwners t) y 0;
-//|   inputOwner = λ x. getD (inputOwners t) x 0;
-//|   kind = λ x. getD (kinds t) x 0;
-//|   source = λ x. getD (sources t) x 0;
-//|   feedInput = pairInput (pairs t);
-//|   feedOutput = pairOutput (pairs t);
+//|   output_owner = λ y. get_or (output_owners t) y 0;
+//|   input_owner = λ x. get_or (input_owners t) x 0;
+//|   kind = λ x. get_or (kinds t) x 0;
+//|   source = λ x. get_or (sources t) x 0;
+//|   feed_input = pair_input (pairs t);
+//|   feed_output = pair_output (pairs t);
 //| }
 pub fn shape_of(t: &[u64]) -> Shape<'_> {
     Shape {
@@ -179,10 +178,10 @@ pub fn shape_of(t: &[u64]) -> Shape<'_> {
         outputs: outputs(t),
         inputs: inputs(t),
         feeds: feeds(t),
-        output_owner: Rc::new(move |y| get_d(output_owners(t), y, 0)),
-        input_owner: Rc::new(move |x| get_d(input_owners(t), x, 0)),
-        kind: Rc::new(move |x| get_d(kinds(t), x, 0)),
-        source: Rc::new(move |x| get_d(sources(t), x, 0)),
+        output_owner: Rc::new(move |y| get_or(output_owners(t), y, 0)),
+        input_owner: Rc::new(move |x| get_or(input_owners(t), x, 0)),
+        kind: Rc::new(move |x| get_or(kinds(t), x, 0)),
+        source: Rc::new(move |x| get_or(sources(t), x, 0)),
         feed_input: Rc::new(move |k| pair_input(pairs(t), k)),
         feed_output: Rc::new(move |k| pair_output(pairs(t), k)),
     }
@@ -209,7 +208,7 @@ pub fn Counted(t: &[u64]) -> bool {
 //|   pub four : 4 ≤ length t
 //|   pub counted : Counted t
 //|   pub long : length t ≡ asked t
-//|   pub wired : Wired (shapeOf t)
+//|   pub wired : Wired (shape_of t)
 pub fn Sound(t: &[u64]) -> bool {
     let four = 4 <= length(t);
     let counted = Counted(t);
@@ -230,44 +229,44 @@ pub fn refuse(fault: bool, number: u64, later: impl FnOnce() -> u64) -> u64 {
     }
 }
 
-//| unfoldable pub countsIn : ℕ → ℕ → ℕ → ℕ → Bool
-//| countsIn u y x f = leb 1 u && (leb u 32 && (leb y 96 && (leb x 96 && leb f 128)))
+//| unfoldable pub counts_in : ℕ → ℕ → ℕ → ℕ → Bool
+//| counts_in u y x f = leb 1 u && (leb u 32 && (leb y 96 && (leb x 96 && leb f 128)))
 pub fn counts_in(u: u64, y: u64, x: u64, f: u64) -> bool {
     1 <= u && (u <= 32 && (y <= 96 && (x <= 96 && f <= 128)))
 }
 
-//| unfoldable pub allBelow : ℕ → List ℕ → Bool
-//| allBelow bound bytes = every (λ i. ltb (getD bytes i 0) bound) (length bytes)
+//| unfoldable pub all_below : ℕ → List ℕ → Bool
+//| all_below bound bytes = every (λ i. ltb (get_or bytes i 0) bound) (length bytes)
 pub fn all_below(bound: u64, bytes: &[u64]) -> bool {
-    every(&|i| get_d(bytes, i, 0) < bound, length(bytes))
+    every(&|i| get_or(bytes, i, 0) < bound, length(bytes))
 }
 
-//| unfoldable pub isPair : List ℕ → ℕ → ℕ → ℕ → Bool
-//| isPair ps k input output = eqb (pairInput ps k) input && eqb (pairOutput ps k) output
+//| unfoldable pub is_pair : List ℕ → ℕ → ℕ → ℕ → Bool
+//| is_pair ps k input output = eqb (pair_input ps k) input && eqb (pair_output ps k) output
 pub fn is_pair(ps: &[u64], k: u64, input: u64, output: u64) -> bool {
     pair_input(ps, k) == input && pair_output(ps, k) == output
 }
 
-//| unfoldable pub feedKnown : List ℕ → List ℕ → List ℕ → ℕ → Bool
-//| feedKnown outs ins ps k =
-//|     ltb (pairInput ps k) (length ins) && (ltb (pairOutput ps k) (length outs)
-//|     && eqb (getD ins (pairInput ps k) 0) (getD outs (pairOutput ps k) 0))
+//| unfoldable pub feed_known : List ℕ → List ℕ → List ℕ → ℕ → Bool
+//| feed_known outs ins ps k =
+//|     ltb (pair_input ps k) (length ins) && (ltb (pair_output ps k) (length outs)
+//|     && eqb (get_or ins (pair_input ps k) 0) (get_or outs (pair_output ps k) 0))
 pub fn feed_known(outs: &[u64], ins: &[u64], ps: &[u64], k: u64) -> bool {
     pair_input(ps, k) < length(ins)
         && (pair_output(ps, k) < length(outs)
-            && get_d(ins, pair_input(ps, k), 0) == get_d(outs, pair_output(ps, k), 0))
+            && get_or(ins, pair_input(ps, k), 0) == get_or(outs, pair_output(ps, k), 0))
 }
 
-//| unfoldable pub feedAgain : List ℕ → ℕ → Bool
-//| feedAgain ps k = some (λ j. isPair ps j (pairInput ps k) (pairOutput ps k)) k
+//| unfoldable pub feed_again : List ℕ → ℕ → Bool
+//| feed_again ps k = some (λ j. is_pair ps j (pair_input ps k) (pair_output ps k)) k
 pub fn feed_again(ps: &[u64], k: u64) -> bool {
     some(&|j| is_pair(ps, j, pair_input(ps, k), pair_output(ps, k)), k)
 }
 
-//| unfoldable pub feedsFrom : List ℕ → List ℕ → List ℕ → ℕ → ℕ → ℕ
-//| feedsFrom outs ins ps zero k = 0
-//| feedsFrom outs ins ps (suc n) k =
-//|     refuse (not (feedKnown outs ins ps k)) 6 (refuse (feedAgain ps k) 7 (feedsFrom outs ins ps n (suc k)))
+//| unfoldable pub feeds_from : List ℕ → List ℕ → List ℕ → ℕ → ℕ → ℕ
+//| feeds_from outs ins ps zero k = 0
+//| feeds_from outs ins ps (suc n) k =
+//|     refuse (not (feed_known outs ins ps k)) 6 (refuse (feed_again ps k) 7 (feeds_from outs ins ps n (suc k)))
 pub fn feeds_from(outs: &[u64], ins: &[u64], ps: &[u64], n: u64, k: u64) -> u64 {
     match n {
         0 => 0,
@@ -279,11 +278,11 @@ pub fn feeds_from(outs: &[u64], ins: &[u64], ps: &[u64], n: u64, k: u64) -> u64 
 
 //| unfoldable pub wiring : List ℕ → ℕ
 //| wiring t =
-//|     refuse (not (allBelow (units t) (outputOwners t))) 3
-//|     (refuse (not (allBelow (units t) (inputOwners t))) 3
-//|     (refuse (not (allBelow 2 (kinds t))) 4
-//|     (refuse (not (allBelow (outputs t) (sources t))) 5
-//|     (feedsFrom (outputOwners t) (inputOwners t) (pairs t) (feeds t) 0))))
+//|     refuse (not (all_below (units t) (output_owners t))) 3
+//|     (refuse (not (all_below (units t) (input_owners t))) 3
+//|     (refuse (not (all_below 2 (kinds t))) 4
+//|     (refuse (not (all_below (outputs t) (sources t))) 5
+//|     (feeds_from (output_owners t) (input_owners t) (pairs t) (feeds t) 0))))
 pub fn wiring(t: &[u64]) -> u64 {
     refuse(!all_below(units(t), output_owners(t)), 3, || {
         refuse(!all_below(units(t), input_owners(t)), 3, || {
@@ -299,7 +298,7 @@ pub fn wiring(t: &[u64]) -> u64 {
 //| unfoldable pub refusal : List ℕ → ℕ
 //| refusal t =
 //|     refuse (not (leb 4 (length t))) 1
-//|     (refuse (not (countsIn (units t) (outputs t) (inputs t) (feeds t))) 2
+//|     (refuse (not (counts_in (units t) (outputs t) (inputs t) (feeds t))) 2
 //|     (refuse (not (eqb (length t) (asked t))) 1
 //|     (wiring t)))
 pub fn refusal(t: &[u64]) -> u64 {
@@ -311,7 +310,7 @@ pub fn refusal(t: &[u64]) -> u64 {
 }
 
 //| unfoldable pub checked : List ℕ → Answer
-//| checked t = record { number = refusal t; place = cond (eqb (refusal t) 0) (total (shapeOf t)) 0 }
+//| checked t = record { number = refusal t; place = cond (eqb (refusal t) 0) (total (shape_of t)) 0 }
 pub fn checked(t: &[u64]) -> Answer {
     Answer { number: refusal(t), place: if refusal(t) == 0 { total(&shape_of(t)) } else { 0 } }
 }
@@ -328,8 +327,7 @@ pub struct Outcome {
 }
 
 //| abbrev pub outcome : ℕ → ℕ → List ℕ → Outcome
-//| outcome number place bytes =
-//|     record { answer = record { number = number; place = place }; bytes = bytes }
+//| outcome number place bytes = record { answer = record { number = number; place = place }; bytes = bytes }
 pub fn outcome(number: u64, place: u64, bytes: Vec<u64>) -> Outcome {
     Outcome { answer: Answer { number, place }, bytes }
 }

@@ -2,7 +2,7 @@
 use super::calls::Call::{self, Get, NoCall, Set, Step};
 use super::calls::{by_kind, call_of, feeds_to};
 use super::judging::verdict_of;
-use super::library::{any, cons, each, get_d, implies, length, remembered, Test};
+use super::library::{any, cons, each, get_or, implies, length, remembered, Test};
 use super::search::none;
 use super::table::{shape_of, total, Shape};
 use std::rc::Rc;
@@ -25,21 +25,21 @@ pub fn pick<Value>(q: Test, n: u64, k: u64, value: &dyn Fn(u64) -> Value) -> Vec
     }
 }
 
-//| abbrev pub ofUnit : {Value : Type 0} → Shape → ℕ → (ℕ → Value) → List Value
-//| ofUnit s u value = pick (λ x. eqb (s .inputOwner x) u) (s .inputs) 0 value
+//| abbrev pub of_unit : {Value : Type 0} → Shape → ℕ → (ℕ → Value) → List Value
+//| of_unit s u value = pick (λ x. eqb (s.input_owner x) u) s.inputs 0 value
 pub fn of_unit<Value>(s: &Shape, u: u64, value: &dyn Fn(u64) -> Value) -> Vec<Value> {
     pick(&|x| (s.input_owner)(x) == u, s.inputs, 0, value)
 }
 
 //| abbrev pub feeding : {Value : Type 0} → Shape → ℕ → (ℕ → Value) → List Value
-//| feeding s y value = pick (λ x. feedsTo s x y) (s .inputs) 0 value
+//| feeding s y value = pick (λ x. feeds_to s x y) s.inputs 0 value
 pub fn feeding<Value>(s: &Shape, y: u64, value: &dyn Fn(u64) -> Value) -> Vec<Value> {
     pick(&|x| feeds_to(s, x, y), s.inputs, 0, value)
 }
 
 //| pub record Rules (State Value : Type 0) : Type 0 where
-//|   pub stepRule : ℕ → State → List Value → State
-//|   pub outputRule : ℕ → State → List Value → Value
+//|   pub step_rule : ℕ → State → List Value → State
+//|   pub output_rule : ℕ → State → List Value → Value
 #[derive(Clone)]
 pub struct Rules<State, Value> {
     pub step_rule: Rc<dyn Fn(u64, State, &[Value]) -> State>,
@@ -95,9 +95,9 @@ pub struct Held<A> {
 pub type World<'a, State, Value> = Rc<dyn Fn(Call) -> Held<At<State, Value>> + 'a>;
 
 //| unfoldable pub moves : Call → Call → Bool
-//| moves (Step u) = byKind (λ v. eqb v u) none none
-//| moves (Get y) = byKind none (λ z. eqb z y) none
-//| moves (Set x) = byKind none none (λ z. eqb z x)
+//| moves (Step u) = by_kind (λ v. eqb v u) none none
+//| moves (Get y) = by_kind none (λ z. eqb z y) none
+//| moves (Set x) = by_kind none none (λ z. eqb z x)
 //| moves NoCall = λ k. false
 pub fn moves(c: Call, k: Call) -> bool {
     match c {
@@ -110,9 +110,9 @@ pub fn moves(c: Call, k: Call) -> bool {
 
 //| module _ {State Value : Type 0} (s : Shape) (m : Rules State Value) where
 //|   abbrev pub gives : World State Value → Values State Value
-//|   gives w (Step u) = m .stepRule u (w (Step u) .value) (ofUnit s u (λ x. w (Set x) .value))
-//|   gives w (Get y) = m .outputRule y (w (Step (s .outputOwner y)) .value) (feeding s y (λ x. w (Set x) .value))
-//|   gives w (Set x) = w (Get (s .source x)) .value
+//|   gives w (Step u) = m.step_rule u (w (Step u)).value (of_unit s u (λ x. (w (Set x)).value))
+//|   gives w (Get y) = m.output_rule y (w (Step (s.output_owner y))).value (feeding s y (λ x. (w (Set x)).value))
+//|   gives w (Set x) = (w (Get (s.source x))).value
 //|   gives w NoCall = tt
 pub fn gives<State, Value>(
     s: &Shape,
@@ -134,7 +134,7 @@ pub fn gives<State, Value>(
 }
 
 //|   abbrev pub acts : World State Value → Call → World State Value
-//|   acts w c k = cond (moves c k) (record { value = gives w k; time = suc (w k .time) }) (w k)
+//|   acts w c k = cond (moves c k) (record { value = gives w k; time = suc (w k).time }) (w k)
 pub fn acts<'a, State: Clone + 'a, Value: Clone + 'a>(
     s: &Shape<'a>,
     m: &Rules<State, Value>,
@@ -153,7 +153,7 @@ pub fn acts<'a, State: Clone + 'a, Value: Clone + 'a>(
 
 //|   unfoldable pub run : World State Value → List ℕ → World State Value
 //|   run w [] = w
-//|   run w (c ∷ l) = run (acts w (callOf s c)) l
+//|   run w (c ∷ l) = run (acts w (call_of s c)) l
 pub fn run<'a, State: Clone + 'a, Value: Clone + 'a>(
     s: &Shape<'a>,
     m: &Rules<State, Value>,
@@ -170,12 +170,12 @@ pub fn run<'a, State: Clone + 'a, Value: Clone + 'a>(
 
 //| module _ {State Value : Type 0} (s : Shape) (m : Rules State Value) where
 //|   pub record Solves (old new : Values State Value) : Type 0 where
-//|     pub states : (u : ℕ) → u < s .units
+//|     pub states : (u : ℕ) → u < s.units
 //|         → new (Step u)
-//|         ≡ m .stepRule u (old (Step u)) (ofUnit s u (λ x. cond (eqb (s .kind x) 0) (old (Set x)) (new (Set x))))
-//|     pub outputs : (y : ℕ) → y < s .outputs
-//|         → new (Get y) ≡ m .outputRule y (new (Step (s .outputOwner y))) (feeding s y (λ x. new (Set x)))
-//|     pub inputs : (x : ℕ) → x < s .inputs → new (Set x) ≡ new (Get (s .source x))
+//|         ≡ m.step_rule u (old (Step u)) (of_unit s u (λ x. cond (eqb (s.kind x) 0) (old (Set x)) (new (Set x))))
+//|     pub outputs : (y : ℕ) → y < s.outputs
+//|         → new (Get y) ≡ m.output_rule y (new (Step (s.output_owner y))) (feeding s y (λ x. new (Set x)))
+//|     pub inputs : (x : ℕ) → x < s.inputs → new (Set x) ≡ new (Get (s.source x))
 pub fn Solves<State: PartialEq, Value: PartialEq>(
     s: &Shape,
     m: &Rules<State, Value>,
@@ -198,13 +198,13 @@ pub fn Solves<State: PartialEq, Value: PartialEq>(
 
 //| module _ {State Value : Type 0} (s : Shape) where
 //|   abbrev pub AtTime : ℕ → World State Value → Type 0
-//|   AtTime n w = (a : ℕ) → a < total s → w (callOf s a) .time ≡ n
+//|   AtTime n w = (a : ℕ) → a < total s → (w (call_of s a)).time ≡ n
 pub fn AtTime<State, Value>(s: &Shape, n: u64, w: &World<State, Value>) -> bool {
     each(total(s), &|a| w(call_of(s, a)).time == n)
 }
 
 //|   abbrev pub Joined : World State Value → Type 0
-//|   Joined w = (x : ℕ) → x < s .inputs → w (Set x) ≡ w (Get (s .source x))
+//|   Joined w = (x : ℕ) → x < s.inputs → w (Set x) ≡ w (Get (s.source x))
 pub fn Joined<State: PartialEq, Value: PartialEq>(s: &Shape, w: &World<State, Value>) -> bool {
     each(s.inputs, &|x| w(Set(x)) == w(Get((s.source)(x))))
 }
@@ -212,21 +212,21 @@ pub fn Joined<State: PartialEq, Value: PartialEq>(s: &Shape, w: &World<State, Va
 // ---- crates/twin/specs/Demand.antt
 
 //| abbrev pub values : {State Value : Type 0} → World State Value → Values State Value
-//| values w k = w k .value
+//| values w k = (w k).value
 pub fn values<'a, State: 'a, Value: 'a>(w: &World<'a, State, Value>) -> Values<'a, State, Value> {
     let w = w.clone();
     Rc::new(move |k| w(k).value)
 }
 
 //| abbrev pub Passed : List ℕ → List ℕ → Type 0
-//| Passed t order = verdictOf t order .number ≡ 0
+//| Passed t order = (verdict_of t order).number ≡ 0
 pub fn Passed(t: &[u64], order: &[u64]) -> bool {
     verdict_of(t, order).number == 0
 }
 
 //| module _ {State Value : Type 0} (t : List ℕ) (m : Rules State Value) where
 //|   abbrev pub end : World State Value → List ℕ → World State Value
-//|   end = run (shapeOf t) m
+//|   end = run (shape_of t) m
 pub fn end<'a, State: Clone + 'a, Value: Clone + 'a>(
     t: &'a [u64],
     m: &Rules<State, Value>,
@@ -239,14 +239,14 @@ pub fn end<'a, State: Clone + 'a, Value: Clone + 'a>(
 // ---- crates/twin/specs/Integers.antt
 
 //| pub record Ends (t : List ℕ) (m : Rules ℤ ℤ) (order : List ℕ) (w : World ℤ ℤ) (n : ℕ) : Type 0 where
-//|   pub one-later : AtTime (shapeOf t) (suc n) (run (shapeOf t) m w order)
-//|   pub moved-once : (a : ℕ) → a < total (shapeOf t)
-//|       → (i : ℕ) × (i < length order) × (getD order i 0 ≡ a)
-//|       × ((j : ℕ) → j < length order → getD order j 0 ≡ a → j ≡ i)
-//|   pub joined : Joined (shapeOf t) (run (shapeOf t) m w order)
-//|   pub solves : Solves (shapeOf t) m (values w) (values (run (shapeOf t) m w order))
-//|   pub single : (new : Values ℤ ℤ) → Solves (shapeOf t) m (values w) new → (a : ℕ) → a < total (shapeOf t)
-//|       → values (run (shapeOf t) m w order) (callOf (shapeOf t) a) ≡ new (callOf (shapeOf t) a)
+//|   pub one_later : AtTime (shape_of t) (suc n) (run (shape_of t) m w order)
+//|   pub moved-once : (a : ℕ) → a < total (shape_of t)
+//|       → (i : ℕ) × (i < length order) × (get_or order i 0 ≡ a)
+//|       × ((j : ℕ) → j < length order → get_or order j 0 ≡ a → j ≡ i)
+//|   pub joined : Joined (shape_of t) (run (shape_of t) m w order)
+//|   pub solves : Solves (shape_of t) m (values w) (values (run (shape_of t) m w order))
+//|   pub single : (new : Values ℤ ℤ) → Solves (shape_of t) m (values w) new → (a : ℕ) → a < total (shape_of t)
+//|       → values (run (shape_of t) m w order) (call_of (shape_of t) a) ≡ new (call_of (shape_of t) a)
 // `asked` are the `new` of which `single` is asked.
 pub fn Ends<'a, State: Clone + PartialEq + 'a, Value: Clone + PartialEq + 'a>(
     t: &'a [u64],
@@ -258,7 +258,7 @@ pub fn Ends<'a, State: Clone + PartialEq + 'a, Value: Clone + PartialEq + 'a>(
 ) -> bool {
     let s = shape_of(t);
     let end = run(&s, m, w.clone(), order);
-    let at = |i| get_d(order, i, 0);
+    let at = |i| get_or(order, i, 0);
     let one_later = AtTime(&s, n + 1, &end);
     let moved_once = each(total(&s), &|a| {
         any(length(order), &|i| {

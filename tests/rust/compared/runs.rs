@@ -8,7 +8,7 @@ use crate::support::rounds::{numbers, Tally};
 use crate::support::tables::{acyclic, counts, few};
 use crate::transcribed::calls::Call::{Get, NoCall, Set, Step};
 use crate::transcribed::calls::{call_of, get_no, set_no, step_no};
-use crate::transcribed::library::{append, get_d, permutations, take};
+use crate::transcribed::library::{append, get_or, permutations, take};
 use crate::transcribed::table::{shape_of, total, Shape};
 use crate::transcribed::twin::{
     self, end, values, AtTime, Ends, Held, Joined, Passed, Rules as Models, Solves, World as Holding,
@@ -75,9 +75,9 @@ fn belonging(s: &Shape, a: u64, number: i64) -> At {
 fn by_call<'a>(s: &Shape<'a>, list: Vec<At>) -> Values<'a> {
     let s = s.clone();
     Rc::new(move |k| match k {
-        Step(u) => get_d(&list, step_no(u), At::Nothing),
-        Get(y) => get_d(&list, get_no(&s, y), At::Nothing),
-        Set(x) => get_d(&list, set_no(&s, x), At::Nothing),
+        Step(u) => get_or(&list, step_no(u), At::Nothing),
+        Get(y) => get_or(&list, get_no(&s, y), At::Nothing),
+        Set(x) => get_or(&list, set_no(&s, x), At::Nothing),
         NoCall => At::Nothing,
     })
 }

@@ -1,5 +1,5 @@
 // What has been declared so far: names found in it, and one declaration more.
-use super::super::library::{append, get_d, length, set};
+use super::super::library::{append, get_or, length, set};
 use super::rows::{place, same};
 
 // ---- crates/grammar/specs/Draft.antt
@@ -66,44 +66,44 @@ pub fn blank() -> Draft {
 //| unjoined = 255
 pub const UNJOINED: u64 = 255;
 
-//| abbrev pub noInput : Input
-//| noInput = record { owner = 0; name = []; kind = 0; source = 0; line = 0 }
+//| abbrev pub no_input : Input
+//| no_input = record { owner = 0; name = []; kind = 0; source = 0; line = 0 }
 pub fn no_input() -> Input {
     Input { owner: 0, name: vec![], kind: 0, source: 0, line: 0 }
 }
 
-//| abbrev pub inputOf : Draft → ℕ → Input
-//| inputOf d x = getD (d .inputs) x noInput
+//| abbrev pub input_of : Draft → ℕ → Input
+//| input_of d x = get_or d.inputs x no_input
 pub fn input_of(d: &Draft, x: u64) -> Input {
-    get_d(&d.inputs, x, no_input())
+    get_or(&d.inputs, x, no_input())
 }
 
-//| unfoldable pub unitNamed : Draft → List ℕ → ℕ
-//| unitNamed d w = place (λ n. same n w) (d .units)
+//| unfoldable pub unit_named : Draft → List ℕ → ℕ
+//| unit_named d w = place (λ n. same n w) d.units
 pub fn unit_named(d: &Draft, w: &[u64]) -> u64 {
     place(&|n: &Vec<u64>| same(n, w), &d.units)
 }
 
-//| unfoldable pub outputNamed : Draft → ℕ → List ℕ → ℕ
-//| outputNamed d u w = place (λ o. eqb (o .owner) u && same (o .name) w) (d .outputs)
+//| unfoldable pub output_named : Draft → ℕ → List ℕ → ℕ
+//| output_named d u w = place (λ o. eqb o.owner u && same o.name w) d.outputs
 pub fn output_named(d: &Draft, u: u64, w: &[u64]) -> u64 {
     place(&|o: &Output| o.owner == u && same(&o.name, w), &d.outputs)
 }
 
-//| unfoldable pub inputNamed : Draft → ℕ → List ℕ → ℕ
-//| inputNamed d u w = place (λ i. eqb (i .owner) u && same (i .name) w) (d .inputs)
+//| unfoldable pub input_named : Draft → ℕ → List ℕ → ℕ
+//| input_named d u w = place (λ i. eqb i.owner u && same i.name w) d.inputs
 pub fn input_named(d: &Draft, u: u64, w: &[u64]) -> u64 {
     place(&|i: &Input| i.owner == u && same(&i.name, w), &d.inputs)
 }
 
-//| unfoldable pub feedOf : Draft → ℕ → ℕ → ℕ
-//| feedOf d x y = place (λ f. eqb (f .input) x && eqb (f .output) y) (d .feeds)
+//| unfoldable pub feed_of : Draft → ℕ → ℕ → ℕ
+//| feed_of d x y = place (λ f. eqb f.input x && eqb f.output y) d.feeds
 pub fn feed_of(d: &Draft, x: u64, y: u64) -> u64 {
     place(&|f: &Feed| f.input == x && f.output == y, &d.feeds)
 }
 
 //| unfoldable pub loose : Draft → ℕ
-//| loose d = place (λ i. eqb (i .source) unjoined) (d .inputs)
+//| loose d = place (λ i. eqb i.source unjoined) d.inputs
 pub fn loose(d: &Draft) -> u64 {
     place(&|i: &Input| i.source == UNJOINED, &d.inputs)
 }
@@ -114,39 +114,38 @@ pub fn known<A>(l: &[A], i: u64) -> bool {
     i < length(l)
 }
 
-//| unfoldable pub addUnit : Draft → List ℕ → Draft
-//| addUnit d n = draft (d .units ++ (n ∷ [])) (d .outputs) (d .inputs) (d .feeds)
+//| unfoldable pub add_unit : Draft → List ℕ → Draft
+//| add_unit d n = draft (d.units ++ (n ∷ [])) d.outputs d.inputs d.feeds
 pub fn add_unit(d: &Draft, n: Vec<u64>) -> Draft {
     draft(&append(&d.units, &[n]), &d.outputs, &d.inputs, &d.feeds)
 }
 
-//| unfoldable pub addOutput : Draft → Output → Draft
-//| addOutput d o = draft (d .units) (d .outputs ++ (o ∷ [])) (d .inputs) (d .feeds)
+//| unfoldable pub add_output : Draft → Output → Draft
+//| add_output d o = draft d.units (d.outputs ++ (o ∷ [])) d.inputs d.feeds
 pub fn add_output(d: &Draft, o: Output) -> Draft {
     draft(&d.units, &append(&d.outputs, &[o]), &d.inputs, &d.feeds)
 }
 
-//| unfoldable pub addInput : Draft → Input → Draft
-//| addInput d i = draft (d .units) (d .outputs) (d .inputs ++ (i ∷ [])) (d .feeds)
+//| unfoldable pub add_input : Draft → Input → Draft
+//| add_input d i = draft d.units d.outputs (d.inputs ++ (i ∷ [])) d.feeds
 pub fn add_input(d: &Draft, i: Input) -> Draft {
     draft(&d.units, &d.outputs, &append(&d.inputs, &[i]), &d.feeds)
 }
 
-//| unfoldable pub addFeed : Draft → Feed → Draft
-//| addFeed d f = draft (d .units) (d .outputs) (d .inputs) (d .feeds ++ (f ∷ []))
+//| unfoldable pub add_feed : Draft → Feed → Draft
+//| add_feed d f = draft d.units d.outputs d.inputs (d.feeds ++ (f ∷ []))
 pub fn add_feed(d: &Draft, f: Feed) -> Draft {
     draft(&d.units, &d.outputs, &d.inputs, &append(&d.feeds, &[f]))
 }
 
 //| unfoldable pub joined : Input → ℕ → Input
-//| joined i y = record { owner = i .owner; name = i .name; kind = i .kind; source = y; line = i .line }
+//| joined i y = record { owner = i.owner; name = i.name; kind = i.kind; source = y; line = i.line }
 pub fn joined(i: Input, y: u64) -> Input {
     Input { owner: i.owner, name: i.name, kind: i.kind, source: y, line: i.line }
 }
 
-//| unfoldable pub addJoin : Draft → ℕ → ℕ → Draft
-//| addJoin d x y =
-//|   draft (d .units) (d .outputs) (set (d .inputs) x (joined (inputOf d x) y)) (d .feeds)
+//| unfoldable pub add_join : Draft → ℕ → ℕ → Draft
+//| add_join d x y = draft d.units d.outputs (set d.inputs x (joined (input_of d x) y)) d.feeds
 pub fn add_join(d: &Draft, x: u64, y: u64) -> Draft {
     draft(&d.units, &d.outputs, &set(&d.inputs, x, joined(input_of(d, x), y)), &d.feeds)
 }

@@ -38,15 +38,15 @@ pub fn taken(d: Draft) -> Outcome {
     Outcome { number: 0, draft: d }
 }
 
-//| unfoldable pub isName : List ℕ → Bool
-//| isName w = ltb 0 (length w) && leb (length w) 16
+//| unfoldable pub is_name : List ℕ → Bool
+//| is_name w = ltb 0 (length w) && leb (length w) 16
 pub fn is_name(w: &[u64]) -> bool {
     0 < length(w) && length(w) <= 16
 }
 
 //| unfoldable pub faulty : List (List ℕ) → ℕ → ℕ
 //| faulty f zero = 0
-//| faulty f (suc n) = cond (ltb 0 (faulty f n)) (faulty f n) (cond (isName (word f (suc n))) 0 (suc n))
+//| faulty f (suc n) = cond (ltb 0 (faulty f n)) (faulty f n) (cond (is_name (word f (suc n))) 0 (suc n))
 pub fn faulty(f: &[Vec<u64>], n: u64) -> u64 {
     match n {
         0 => 0,
@@ -62,8 +62,8 @@ pub fn faulty(f: &[Vec<u64>], n: u64) -> u64 {
     }
 }
 
-//| unfoldable pub kindOf : List ℕ → ℕ
-//| kindOf w = cond (same w (ascii "delayed")) 0 (cond (same w (ascii "reactive")) 1 2)
+//| unfoldable pub kind_of : List ℕ → ℕ
+//| kind_of w = cond (same w (ascii "delayed")) 0 (cond (same w (ascii "reactive")) 1 2)
 pub fn kind_of(w: &[u64]) -> u64 {
     if same(w, &ascii("delayed")) {
         0
@@ -74,13 +74,13 @@ pub fn kind_of(w: &[u64]) -> u64 {
     }
 }
 
-//| unfoldable pub unitLine : Draft → List (List ℕ) → Outcome
-//| unitLine d f =
+//| unfoldable pub unit_line : Draft → List (List ℕ) → Outcome
+//| unit_line d f =
 //|     refuse (not (eqb (length f) 2)) 24 d
 //|     (refuse (ltb 0 (faulty f 1)) 25 d
-//|     (refuse (known (d .units) (unitNamed d (word f 1))) 26 d
-//|     (refuse (leb 32 (length (d .units))) 29 d
-//|     (taken (addUnit d (word f 1))))))
+//|     (refuse (known d.units (unit_named d (word f 1))) 26 d
+//|     (refuse (leb 32 (length d.units)) 29 d
+//|     (taken (add_unit d (word f 1))))))
 pub fn unit_line(d: &Draft, f: &[Vec<u64>]) -> Outcome {
     refuse(!(length(f) == 2), 24, d, || {
         refuse(0 < faulty(f, 1), 25, d, || {
@@ -91,15 +91,15 @@ pub fn unit_line(d: &Draft, f: &[Vec<u64>]) -> Outcome {
     })
 }
 
-//| unfoldable pub outLine : Draft → List (List ℕ) → Outcome
-//| outLine d f =
-//|     let u = unitNamed d (word f 1) in
+//| unfoldable pub out_line : Draft → List (List ℕ) → Outcome
+//| out_line d f =
+//|     let u = unit_named d (word f 1) in
 //|     refuse (not (eqb (length f) 3)) 24 d
 //|     (refuse (ltb 0 (faulty f 2)) 25 d
-//|     (refuse (not (known (d .units) u)) 27 d
-//|     (refuse (known (d .outputs) (outputNamed d u (word f 2))) 26 d
-//|     (refuse (leb 96 (length (d .outputs))) 29 d
-//|     (taken (addOutput d (record { owner = u; name = word f 2 })))))))
+//|     (refuse (not (known d.units u)) 27 d
+//|     (refuse (known d.outputs (output_named d u (word f 2))) 26 d
+//|     (refuse (leb 96 (length d.outputs)) 29 d
+//|     (taken (add_output d (record { owner = u; name = word f 2 })))))))
 pub fn out_line(d: &Draft, f: &[Vec<u64>]) -> Outcome {
     let u = unit_named(d, &word(f, 1));
     refuse(!(length(f) == 3), 24, d, || {
@@ -115,17 +115,17 @@ pub fn out_line(d: &Draft, f: &[Vec<u64>]) -> Outcome {
     })
 }
 
-//| unfoldable pub inLine : Draft → ℕ → List (List ℕ) → Outcome
-//| inLine d k f =
-//|     let u = unitNamed d (word f 1) in
-//|     let w = kindOf (word f 3) in
+//| unfoldable pub in_line : Draft → ℕ → List (List ℕ) → Outcome
+//| in_line d k f =
+//|     let u = unit_named d (word f 1) in
+//|     let w = kind_of (word f 3) in
 //|     refuse (not (eqb (length f) 4)) 24 d
 //|     (refuse (ltb 0 (faulty f 2)) 25 d
 //|     (refuse (eqb w 2) 28 d
-//|     (refuse (not (known (d .units) u)) 27 d
-//|     (refuse (known (d .inputs) (inputNamed d u (word f 2))) 26 d
-//|     (refuse (leb 96 (length (d .inputs))) 29 d
-//|     (taken (addInput d (record { owner = u; name = word f 2; kind = w; source = unjoined; line = k }))))))))
+//|     (refuse (not (known d.units u)) 27 d
+//|     (refuse (known d.inputs (input_named d u (word f 2))) 26 d
+//|     (refuse (leb 96 (length d.inputs)) 29 d
+//|     (taken (add_input d (record { owner = u; name = word f 2; kind = w; source = unjoined; line = k }))))))))
 pub fn in_line(d: &Draft, k: u64, f: &[Vec<u64>]) -> Outcome {
     let u = unit_named(d, &word(f, 1));
     let w = kind_of(&word(f, 3));
@@ -143,19 +143,19 @@ pub fn in_line(d: &Draft, k: u64, f: &[Vec<u64>]) -> Outcome {
     })
 }
 
-//| unfoldable pub feedLine : Draft → List (List ℕ) → Outcome
-//| feedLine d f =
-//|     let u = unitNamed d (word f 1) in
-//|     let x = inputNamed d u (word f 2) in
-//|     let y = outputNamed d u (word f 3) in
+//| unfoldable pub feed_line : Draft → List (List ℕ) → Outcome
+//| feed_line d f =
+//|     let u = unit_named d (word f 1) in
+//|     let x = input_named d u (word f 2) in
+//|     let y = output_named d u (word f 3) in
 //|     refuse (not (eqb (length f) 4)) 24 d
 //|     (refuse (ltb 0 (faulty f 3)) 25 d
-//|     (refuse (not (known (d .units) u)) 27 d
-//|     (refuse (not (known (d .inputs) x)) 27 d
-//|     (refuse (not (known (d .outputs) y)) 27 d
-//|     (refuse (known (d .feeds) (feedOf d x y)) 32 d
-//|     (refuse (leb 128 (length (d .feeds))) 29 d
-//|     (taken (addFeed d (record { input = x; output = y })))))))))
+//|     (refuse (not (known d.units u)) 27 d
+//|     (refuse (not (known d.inputs x)) 27 d
+//|     (refuse (not (known d.outputs y)) 27 d
+//|     (refuse (known d.feeds (feed_of d x y)) 32 d
+//|     (refuse (leb 128 (length d.feeds)) 29 d
+//|     (taken (add_feed d (record { input = x; output = y })))))))))
 pub fn feed_line(d: &Draft, f: &[Vec<u64>]) -> Outcome {
     let u = unit_named(d, &word(f, 1));
     let x = input_named(d, u, &word(f, 2));
@@ -177,20 +177,20 @@ pub fn feed_line(d: &Draft, f: &[Vec<u64>]) -> Outcome {
     })
 }
 
-//| unfoldable pub joinLine : Draft → List (List ℕ) → Outcome
-//| joinLine d f =
-//|     let u = unitNamed d (word f 1) in
-//|     let y = outputNamed d u (word f 2) in
-//|     let v = unitNamed d (word f 3) in
-//|     let x = inputNamed d v (word f 4) in
+//| unfoldable pub join_line : Draft → List (List ℕ) → Outcome
+//| join_line d f =
+//|     let u = unit_named d (word f 1) in
+//|     let y = output_named d u (word f 2) in
+//|     let v = unit_named d (word f 3) in
+//|     let x = input_named d v (word f 4) in
 //|     refuse (not (eqb (length f) 5)) 24 d
 //|     (refuse (ltb 0 (faulty f 4)) 25 d
-//|     (refuse (not (known (d .units) u)) 27 d
-//|     (refuse (not (known (d .outputs) y)) 27 d
-//|     (refuse (not (known (d .units) v)) 27 d
-//|     (refuse (not (known (d .inputs) x)) 27 d
-//|     (refuse (not (eqb (inputOf d x .source) unjoined)) 30 d
-//|     (taken (addJoin d x y))))))))
+//|     (refuse (not (known d.units u)) 27 d
+//|     (refuse (not (known d.outputs y)) 27 d
+//|     (refuse (not (known d.units v)) 27 d
+//|     (refuse (not (known d.inputs x)) 27 d
+//|     (refuse (not (eqb (input_of d x).source unjoined)) 30 d
+//|     (taken (add_join d x y))))))))
 pub fn join_line(d: &Draft, f: &[Vec<u64>]) -> Outcome {
     let u = unit_named(d, &word(f, 1));
     let y = output_named(d, u, &word(f, 2));
@@ -215,11 +215,11 @@ pub fn join_line(d: &Draft, f: &[Vec<u64>]) -> Outcome {
 
 //| unfoldable pub line : Draft → ℕ → List (List ℕ) → Outcome
 //| line d k f =
-//|     cond (same (word f 0) (ascii "unit")) (unitLine d f)
-//|     (cond (same (word f 0) (ascii "out")) (outLine d f)
-//|     (cond (same (word f 0) (ascii "in")) (inLine d k f)
-//|     (cond (same (word f 0) (ascii "feed")) (feedLine d f)
-//|     (cond (same (word f 0) (ascii "join")) (joinLine d f)
+//|     cond (same (word f 0) (ascii "unit")) (unit_line d f)
+//|     (cond (same (word f 0) (ascii "out")) (out_line d f)
+//|     (cond (same (word f 0) (ascii "in")) (in_line d k f)
+//|     (cond (same (word f 0) (ascii "feed")) (feed_line d f)
+//|     (cond (same (word f 0) (ascii "join")) (join_line d f)
 //|     (refused 24 d)))))
 pub fn line(d: &Draft, k: u64, f: &[Vec<u64>]) -> Outcome {
     if same(&word(f, 0), &ascii("unit")) {

@@ -8,9 +8,9 @@ use super::rows::{same, word};
 //| Row = List (List ℕ)
 pub type Row = Vec<Vec<u64>>;
 
-//| unfoldable pub linesOf : List Row → List ℕ → List Row
-//| linesOf [] w = []
-//| linesOf (f ∷ fs) w = cond (same (word f 0) w) (f ∷ linesOf fs w) (linesOf fs w)
+//| unfoldable pub lines_of : List Row → List ℕ → List Row
+//| lines_of [] w = []
+//| lines_of (f ∷ fs) w = cond (same (word f 0) w) (f ∷ lines_of fs w) (lines_of fs w)
 pub fn lines_of(rows: &[Row], w: &[u64]) -> Vec<Row> {
     match rows {
         [] => vec![],

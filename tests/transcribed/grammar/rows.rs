@@ -1,5 +1,5 @@
 // Quoted text as bytes, words, and a text as lines of fields.
-use super::super::library::{cons, get_d, take};
+use super::super::library::{cons, get_or, take};
 use super::opening::Row;
 
 // ---- crates/grammar/specs/Quoted.antt
@@ -26,8 +26,7 @@ pub const TAB: u64 = 9;
 pub const LF: u64 = 10;
 
 //| unfoldable pub allowed : ℕ → Bool
-//| allowed b =
-//|   (leb 97 b && leb b 122) || ((leb 48 b && leb b 57) || (eqb b 95 || (eqb b tab || eqb b lf)))
+//| allowed b = (leb 97 b && leb b 122) || ((leb 48 b && leb b 57) || (eqb b 95 || (eqb b tab || eqb b lf)))
 pub fn allowed(b: u64) -> bool {
     (97 <= b && b <= 122) || ((48 <= b && b <= 57) || (b == 95 || (b == TAB || b == LF)))
 }
@@ -76,8 +75,7 @@ pub fn parted(mut rows: Vec<Row>) -> Vec<Row> {
 
 //| unfoldable pub rows : List ℕ → List (List (List ℕ))
 //| rows [] = []
-//| rows (x ∷ xs) =
-//|   cond (eqb x lf) (([] ∷ []) ∷ rows xs) (cond (eqb x tab) (parted (rows xs)) (grown x (rows xs)))
+//| rows (x ∷ xs) = cond (eqb x lf) (([] ∷ []) ∷ rows xs) (cond (eqb x tab) (parted (rows xs)) (grown x (rows xs)))
 pub fn rows(text: &[u64]) -> Vec<Row> {
     match text {
         [] => vec![],
@@ -94,9 +92,9 @@ pub fn rows(text: &[u64]) -> Vec<Row> {
 }
 
 //| unfoldable pub word : List (List ℕ) → ℕ → List ℕ
-//| word f i = getD f i []
+//| word f i = get_or f i []
 pub fn word(f: &[Vec<u64>], i: u64) -> Vec<u64> {
-    get_d(f, i, vec![])
+    get_or(f, i, vec![])
 }
 
 //| unfoldable pub place : {A : Type 0} → (A → Bool) → List A → ℕ
@@ -131,14 +129,14 @@ pub fn times(c: u64, list: &[u64]) -> u64 {
     }
 }
 
-//| unfoldable pub lineOf : List ℕ → ℕ → ℕ
-//| lineOf t i = suc (times lf (take i t))
+//| unfoldable pub line_of : List ℕ → ℕ → ℕ
+//| line_of t i = suc (times lf (take i t))
 pub fn line_of(t: &[u64], i: u64) -> u64 {
     times(LF, take(i, t)) + 1
 }
 
-//| unfoldable pub firstBad : List ℕ → ℕ
-//| firstBad t = place (λ b. not (allowed b)) t
+//| unfoldable pub first_bad : List ℕ → ℕ
+//| first_bad t = place (λ b. not (allowed b)) t
 pub fn first_bad(t: &[u64]) -> u64 {
     place(&|b: &u64| !allowed(*b), t)
 }
