@@ -1,6 +1,21 @@
 -- A set of numbers below 256 as the bits of four words.
 use Rattle.std.specs.Prelude.{
-  ℕ, ◌/◌, ◌%◌, ◌^◌, ◌<◌, ◌≡◌, Bool, not, ◌&&◌, cond, List, length, get_or, set, eqb, ltb,
+  ℕ,
+  ◌/◌,
+  ◌%◌,
+  ◌^◌,
+  ◌<◌,
+  ◌≡◌,
+  Bool,
+  not,
+  ◌&&◌,
+  cond,
+  List,
+  length,
+  get_or,
+  set,
+  eqb,
+  ltb,
 }
 use Rattle.std.specs.Int.Bits.{bit_or, bit_xor}
 

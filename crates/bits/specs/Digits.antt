@@ -1,10 +1,37 @@
 -- Laws of the binary digits of a number: one set, one cleared, the lowest.
 use Rattle.std.specs.Prelude.{
-  ℕ, zero, suc, ◌+◌, ◌-◌, ◌*◌, ◌/◌, ◌%◌, ◌^◌, ◌<◌, ◌≡◌, refl, ◌≢◌, true, false, not, ◌&&◌, ◌||◌,
+  ℕ,
+  zero,
+  suc,
+  ◌+◌,
+  ◌-◌,
+  ◌*◌,
+  ◌/◌,
+  ◌%◌,
+  ◌^◌,
+  ◌<◌,
+  ◌≡◌,
+  refl,
+  ◌≢◌,
+  true,
+  false,
+  not,
+  ◌&&◌,
+  ◌||◌,
   eqb,
 }
 use Rattle.std.proofs.Common.{
-  sym, ap, ◌∙◌, arith, div-one, one-mul, lit<, pow-add, shl_exact, eq-eqb, ne_eqb,
+  sym,
+  ap,
+  ◌∙◌,
+  arith,
+  div-one,
+  one-mul,
+  lit<,
+  pow-add,
+  shl_exact,
+  eq-eqb,
+  ne_eqb,
 }
 use Rattle.std.proofs.Math.Decide.{dec_lt, ℕ_discrete}
 use Rattle.std.proofs.Math.Nat.{div-eq_of_lt, pow-succ', div-div-eq-div-mul}

@@ -1,7 +1,29 @@
 -- What the words hold after a number is put in or taken out, and which is the lowest.
 use Rattle.std.specs.Prelude.{
-  ℕ, zero, suc, ◌+◌, ◌*◌, ◌/◌, ◌%◌, ◌^◌, ◌<◌, ◌≤◌, ◌≡◌, refl, Bool, false, ◌&&◌, ◌||◌, List, [],
-  ◌∷◌, get_or, set, T, eqb, ltb,
+  ℕ,
+  zero,
+  suc,
+  ◌+◌,
+  ◌*◌,
+  ◌/◌,
+  ◌%◌,
+  ◌^◌,
+  ◌<◌,
+  ◌≤◌,
+  ◌≡◌,
+  refl,
+  Bool,
+  false,
+  ◌&&◌,
+  ◌||◌,
+  List,
+  [],
+  ◌∷◌,
+  get_or,
+  set,
+  T,
+  eqb,
+  ltb,
 }
 use Rattle.std.proofs.Common.{sym, ap, ◌∙◌, length-set, lit<}
 use Rattle.std.proofs.Math.Path.{fun_ext}
@@ -125,7 +147,8 @@ module _ (ws : List ℕ) (c : ℕ) where
 
   pub drop_in : c < 256
       → set ws (c / 64)
-      (bit_xor (bit_or (get_or ws (c / 64) 0) (1 * 2 ^ (c % 64) % 2 ^ 64)) (1 * 2 ^ (c % 64) % 2 ^ 64))
+      (bit_xor (bit_or (get_or ws (c / 64) 0) (1 * 2 ^ (c % 64) % 2 ^ 64))
+      (1 * 2 ^ (c % 64) % 2 ^ 64))
       ≡ drop ws c
   unfolding drop
   drop_in h = rw (lt-ltb c 256 h, one_bit (c % 64) (omega arith))

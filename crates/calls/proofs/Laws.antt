@@ -18,7 +18,8 @@ pub byte_of : {r : ℕ} {bytes part : List ℕ} (i : ℕ) → r ≡ get_or bytes
     → r ≡ get_or part i 0
 byte_of {r} {bytes} {part} i e p = e ∙ ap (λ l. get_or l i 0) p
 
-pub call_same : {u y x a b d : ℕ} (c : ℕ) → u ≡ a → y ≡ b → x ≡ d → call_in u y x c ≡ call_in a b d c
+pub call_same : {u y x a b d : ℕ} (c : ℕ) → u ≡ a → y ≡ b → x ≡ d → call_in u y x c
+    ≡ call_in a b d c
 call_same {u} {y} {x} {a} {b} {d} c p q r = rw (p, q, r)
 
 -- ---- a pair of tests, the second asked where the first holds

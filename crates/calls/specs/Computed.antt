@@ -6,7 +6,16 @@ use Rattle.table.specs.Tables.{A, G, itself}
 use Rattle.table.specs.Computed.{words as table-words}
 use Rattle.calls.specs.Number.{call_in}
 use Rattle.calls.specs.Precedence.{
-  Precedes, step_get, get_set, set_get, set-step, step_set, feeds_to, has_kind, by_kind, before,
+  Precedes,
+  step_get,
+  get_set,
+  set_get,
+  set-step,
+  step_set,
+  feeds_to,
+  has_kind,
+  by_kind,
+  before,
   precedes,
 }
 

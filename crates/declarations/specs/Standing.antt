@@ -57,15 +57,18 @@ module _ (w t : List ℕ) (d : ℕ) (small : length t ≤ 65535) (past : length 
       go :
           (b : Bool) (k : ℕ) →
           row_at t (get_or (begins_of w (a + span f) fs) k d) ≡ get_or (lines_of fs w) k [] →
-          ((j : ℕ) → row_at t (get_or (begins_of w (a + span f) fs) j d) ≡ get_or (lines_of fs w) j []) →
-          row_at t (get_or (cond b (a ∷ begins_of w (a + span f) fs) (begins_of w (a + span f) fs)) k d)
+          ((j : ℕ) → row_at t (get_or (begins_of w (a + span f) fs) j d)
+          ≡ get_or (lines_of fs w) j []) →
+          row_at t (get_or (cond b (a ∷ begins_of w (a + span f) fs) (begins_of w (a + span f) fs))
+          k d)
           ≡ get_or (cond b (f ∷ lines_of fs w) (lines_of fs w)) k []
       go true zero same ih = row_first a f fs e
       go true (suc j) same ih = ih j
       go false k same ih = same
 
   -- the line at the k-th place is the k-th line that opens with w; past the last there is none
-  line-stands : (k : ℕ) → row_at t (get_or (begins_from w t 0) k d) ≡ get_or (lines_of (told t) w) k []
+  line-stands : (k : ℕ) → row_at t (get_or (begins_from w t 0) k d)
+      ≡ get_or (lines_of (told t) w) k []
   unfolding begins_from told
   line-stands k = rw (le-ltb 65535 (length t) small) (stands (rows t) 0 k refl)
 
@@ -121,7 +124,8 @@ module _ (w : List ℕ) (n : ℕ) (t : List ℕ) where
           absurd (omega (arith, within.1))
     ]
 
-    pub declared-row : row_at t (get_or (take n (begins_from w t 0)) k 0) ≡ get_or (declared w n t) k []
+    pub declared-row : row_at t (get_or (take n (begins_from w t 0)) k 0)
+        ≡ get_or (declared w n t) k []
     unfolding declared
     declared-row =
         ap (row_at t)

@@ -24,7 +24,13 @@ module _ (a b : List ℕ) (i : ℕ) where
       i < length a → i < length b → get_or a i 0 ≡ get_or b i 0 →
       same (drop i a) (drop i b) ≡ same (drop (i + 1) a) (drop (i + 1) b)
   unfolding same
-  same-on h g e = rw (add-one, drop-cons a i 0, drop-cons b i 0, eq-eqb (get_or a i 0) (get_or b i 0) e)
+  same-on h g e = rw (
+    add-one,
+    drop-cons a i 0,
+    drop-cons b i 0,
+    eq-eqb (get_or a i 0)
+        (get_or b i 0) e,
+  )
 
   pub same_stop :
       i < length a → i < length b → (get_or a i 0 ≡ get_or b i 0 → ⊥)

@@ -69,7 +69,8 @@ module _ (t : List ℕ) (a : ℕ) (small : length t ≤ 65535) where
         let far = spans-far a (row_at t a) no_fields i (omega arith) in
         let f : get_or (fields_at t a).from i 0 ≡ 0 =
         rw whole (far.0 ∙ get_or-replicate 5 i 0 0 five) in
-        let e : get_or (fields_at t a).to i 0 ≡ 0 = rw whole (far.1 ∙ get_or-replicate 5 i 0 0 five) in
+        let e : get_or (fields_at t a).to i 0
+        ≡ 0 = rw whole (far.1 ∙ get_or-replicate 5 i 0 0 five) in
         record {
           order = omega (arith, f, e);
           within = omega (arith, e);

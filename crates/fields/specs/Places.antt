@@ -89,7 +89,8 @@ module _ (t : List ℕ) (a : ℕ) where
   unfolding row_at
   row-some h e =
       let n : a + (length t - 1 - a) ≡ length t - 1 = omega arith in
-      lf-some (drop a t) (length t - 1 - a) (rw length-drop (omega arith)) (rw (get_or-drop a t, n) e)
+      lf-some (drop a t) (length t - 1 - a) (rw length-drop (omega arith))
+      (rw (get_or-drop a t, n) e)
 
 -- where the line has no field, no line is left
 pub rows_none : (t : List ℕ) (a : ℕ) → row_at t a ≡ [] → rows (drop a t) ≡ []

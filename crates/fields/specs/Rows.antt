@@ -1,6 +1,22 @@
 -- Laws of lines over their bytes: the first field, the byte behind it, the lines behind that.
 use Rattle.std.specs.Prelude.{
-  ℕ, zero, suc, ◌<◌, ◌≤◌, ◌⊎◌, ◌≡◌, refl, Bool, true, false, List, [], ◌∷◌, length, get_or, drop,
+  ℕ,
+  zero,
+  suc,
+  ◌<◌,
+  ◌≤◌,
+  ◌⊎◌,
+  ◌≡◌,
+  refl,
+  Bool,
+  true,
+  false,
+  List,
+  [],
+  ◌∷◌,
+  length,
+  get_or,
+  drop,
   eqb,
 }
 use Rattle.std.proofs.Common.{inl, inr, arith, eq-eqb, eqb-true}

@@ -153,7 +153,9 @@ examples :
     × (reading 11 example ≡ stopped 34 0)
     × (reading 0 (ported "") ≡ stopped 31 4)
 unfolding allowed same grown parted rows word place times line_of first_bad blank unit_named
-    output_named input_named feed_of loose known add_unit add_output add_input add_feed joined add_join
-    refused refuse taken is_name faulty kind_of unit_line out_line in_line feed_line join_line line stopped
+    output_named input_named feed_of loose known add_unit add_output add_input add_feed joined
+    add_join
+    refused refuse taken is_name faulty kind_of unit_line out_line in_line feed_line join_line line
+    stopped
     pairs packed ending lines_from version line_by_line reading
 examples = (refl, refl, refl, refl, refl)

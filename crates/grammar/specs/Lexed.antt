@@ -1,7 +1,24 @@
 -- What a reader of fields promises of the line that begins at place a, and what a field then is.
 use Rattle.std.specs.Prelude.{
-  ℕ, ◌+◌, ◌-◌, ◌<◌, ◌≤◌, ◌≡◌, refl, Bool, true, false, cond, List, [], ◌∷◌, length, get_or, take,
-  drop, eqb,
+  ℕ,
+  ◌+◌,
+  ◌-◌,
+  ◌<◌,
+  ◌≤◌,
+  ◌≡◌,
+  refl,
+  Bool,
+  true,
+  false,
+  cond,
+  List,
+  [],
+  ◌∷◌,
+  length,
+  get_or,
+  take,
+  drop,
+  eqb,
 }
 use Rattle.std.proofs.Common.{ap, ◌∙◌, arith}
 use Rattle.grammar.specs.Words.{tab, lf}

@@ -1,6 +1,22 @@
 -- The whole text, from its checks to the packed bytes: SPECIFICATION, Text 10 to 14.
 use Rattle.std.specs.Prelude.{
-  ℕ, suc, ◌-◌, not, ◌&&◌, ◌||◌, cond, List, [], ◌∷◌, ◌++◌, map, length, get_or, drop, eqb, ltb,
+  ℕ,
+  suc,
+  ◌-◌,
+  not,
+  ◌&&◌,
+  ◌||◌,
+  cond,
+  List,
+  [],
+  ◌∷◌,
+  ◌++◌,
+  map,
+  length,
+  get_or,
+  drop,
+  eqb,
+  ltb,
 }
 use Rattle.grammar.specs.Quoted.{ascii}
 use Rattle.grammar.specs.Words.{lf, same}

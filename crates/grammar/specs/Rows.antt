@@ -1,6 +1,20 @@
 -- A text as lines of fields, and places in it: SPECIFICATION, Text 2.
 use Rattle.std.specs.Prelude.{
-  ℕ, suc, ◌+◌, ◌-◌, Bool, not, cond, List, [], ◌∷◌, length, get_or, take, drop, eqb,
+  ℕ,
+  suc,
+  ◌+◌,
+  ◌-◌,
+  Bool,
+  not,
+  cond,
+  List,
+  [],
+  ◌∷◌,
+  length,
+  get_or,
+  take,
+  drop,
+  eqb,
 }
 use Rattle.grammar.specs.Words.{tab, lf, allowed}
 

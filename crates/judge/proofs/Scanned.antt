@@ -12,7 +12,16 @@ use borrow.Author.Tests.{ne_eqb, lt-leb}
 use Rattle.search.specs.Truth.{T_or, or_left, or_right, same_test}
 use Rattle.search.specs.Every.{some, some-found, found_some}
 use Rattle.table.specs.Packed.{
-  units, outputs, inputs, feeds, output_owners, input_owners, kinds, sources, pairs, shape_of,
+  units,
+  outputs,
+  inputs,
+  feeds,
+  output_owners,
+  input_owners,
+  kinds,
+  sources,
+  pairs,
+  shape_of,
 }
 use Rattle.table.specs.Check.{refusal}
 use Rattle.table.specs.Layout.{long_input_owners, long-kinds, long-pairs}

@@ -1,6 +1,23 @@
 -- Judging call by call tells what the verdict tells.
 use Rattle.std.specs.Prelude.{
-  ◌≡◌, ◌≢◌, ◌↔◌, Bool, true, false, List, [], ◌∷◌, ℕ, zero, suc, ◌+◌, ◌≤◌, ◌<◌, get_or, take, drop,
+  ◌≡◌,
+  ◌≢◌,
+  ◌↔◌,
+  Bool,
+  true,
+  false,
+  List,
+  [],
+  ◌∷◌,
+  ℕ,
+  zero,
+  suc,
+  ◌+◌,
+  ◌≤◌,
+  ◌<◌,
+  get_or,
+  take,
+  drop,
   set,
 }
 use Rattle.std.proofs.Math.Path.{sym, ap}

@@ -1,6 +1,19 @@
 -- The marks of a judged run as a set of calls: SPECIFICATION, Judging 1.
 use Rattle.std.specs.Prelude.{
-  ◌≡◌, Bool, true, false, ◌&&◌, List, ℕ, ◌<◌, eqb, ltb, length, get_or, set, replicate,
+  ◌≡◌,
+  Bool,
+  true,
+  false,
+  ◌&&◌,
+  List,
+  ℕ,
+  ◌<◌,
+  eqb,
+  ltb,
+  length,
+  get_or,
+  set,
+  replicate,
 }
 use Rattle.std.proofs.Math.Path.{fun_ext}
 use Rattle.std.proofs.Common.{arith, get_or-set_same, get_or-set_other}

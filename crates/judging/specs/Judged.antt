@@ -1,6 +1,22 @@
 -- The verdict is a pass exactly where the order passes.
 use Rattle.std.specs.Prelude.{
-  ◌≡◌, ◌≢◌, ◌↔◌, Bool, true, false, List, [], ◌∷◌, ℕ, zero, suc, ◌<◌, eqb, length, get_or, take,
+  ◌≡◌,
+  ◌≢◌,
+  ◌↔◌,
+  Bool,
+  true,
+  false,
+  List,
+  [],
+  ◌∷◌,
+  ℕ,
+  zero,
+  suc,
+  ◌<◌,
+  eqb,
+  length,
+  get_or,
+  take,
 }
 use Rattle.std.proofs.Common.{sym, ap, ◌∙◌, arith}
 use Rattle.std.proofs.Math.Decide.{ℕ_discrete}

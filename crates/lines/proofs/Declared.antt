@@ -151,7 +151,8 @@ module _ (t p s : List ℕ) (c : Counts) (fit : Fit t p s c) (a : ℕ) (l : Fiel
             (out_more x) (ap (λ y. name_entry 2 y 0 (from 2) i) out_unit)
 
   -- ---- `in`, unit, name, `delayed` or `reactive`
-  module _ (h : Lets f 4 2) (x : List ℕ) (xe : x ≡ word f 3) (kind : ℕ) (kq : kind ≡ kind_of x) where
+  module _ (h : Lets f 4 2) (x : List ℕ) (xe : x ≡ word f 3) (kind : ℕ) (kq : kind
+      ≡ kind_of x) where
     in_kind : kind ≡ kind_of (word f 3)
     in_kind = kq ∙ ap kind_of xe
 

@@ -39,7 +39,8 @@ entries-alike d f from i j = go (eqb k 1) (eqb k 2) (eqb k 3) (eqb k 4) (eqb k 5
     by a b c e g n =
         cond a (unit_entry from n)
         (cond b (out_entry d f from n)
-        (cond c (in_entry d f from n) (cond e (feed_entry d f n) (cond g (join_entry d f n) no_entry))))
+        (cond c (in_entry d f from n) (cond e (feed_entry d f n)
+        (cond g (join_entry d f n) no_entry))))
 
     go : (a b c e g : Bool) → Alike (by a b c e g i) (by a b c e g j)
     go true b c e g = record { what = refl; owner = refl; begin = refl }

@@ -9,7 +9,13 @@ use borrow.Author.Tests.{eq-eqb, ne_eqb}
 use Rattle.search.specs.Least.{least_from}
 use Rattle.grammar.specs.Rows.{word}
 use Rattle.grammar.specs.Draft.{
-  Draft, unit_named, output_named, input_named, feed_of, add_feed, add_join,
+  Draft,
+  unit_named,
+  output_named,
+  input_named,
+  feed_of,
+  add_feed,
+  add_join,
 }
 use Rattle.grammar.specs.Lines.{refused, refuse, taken, feed_line, join_line}
 use Rattle.notes.specs.Layout.{outputs_base, inputs_base, sources_base}
@@ -198,7 +204,8 @@ module _ (t p s : List ℕ) (c : Counts) (fit : Fit t p s c) (f : List (List ℕ
         to-input : o.number ≡ input_named d o.unit (word f 4)
         to-input = (y.some w).1.1 ∙ input-found t p s c fit o.unit (word f 4)
 
-        pub join_30 : (get_or s (sources_base + o.number) 0 ≡ 255 → ⊥) → refused 30 d ≡ join_line d f
+        pub join_30 : (get_or s (sources_base + o.number) 0 ≡ 255 → ⊥) → refused 30 d
+            ≡ join_line d f
         unfolding join_line refuse
         join_30 n =
             rw (

@@ -62,7 +62,8 @@ unfoldable pub out_entry : Draft → List (List ℕ) → List ℕ → ℕ → En
 out_entry d f from i = name_entry 2 (unit_named d (word f 1)) 0 (get_or from 2 0) i
 
 unfoldable pub in_entry : Draft → List (List ℕ) → List ℕ → ℕ → Entry
-in_entry d f from i = name_entry 3 (unit_named d (word f 1)) (kind_of (word f 3)) (get_or from 2 0) i
+in_entry d f from i = name_entry 3 (unit_named d (word f 1)) (kind_of (word f 3)) (get_or from 2 0)
+    i
 
 unfoldable pub feed_entry : Draft → List (List ℕ) → ℕ → Entry
 feed_entry d f i =

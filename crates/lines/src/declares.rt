@@ -13,7 +13,12 @@ use notes::{Counts, Entry, INPUTS, OUTPUTS, Places, Slots, UNITS};
 // What a line with a name declares: its owner, its rank, its kind, and where it begins.
 fn named(what: u8, owner: usize, rank: usize, kind: u8, begin: u16) -> Taken
     requires { (owner < 32) × (rank ≤ 96) }
-    ensures { result ≡ record { number = 0; field = 0; entry = name_entry what owner kind begin rank } }
+    ensures { result ≡ record {
+      number = 0;
+      field = 0;
+      entry =
+          name_entry what owner kind begin rank;
+    } }
 {
     let entry = Entry {
         what: what,

@@ -1,15 +1,43 @@
 -- SPECIFICATION, Lister 7, a cycle, two refusals and a listing of the greatest length, computed.
 use Rattle.std.specs.Prelude.{
-  ℕ, zero, suc, ◌+◌, ◌/◌, ◌%◌, ◌≡◌, refl, List, [], ◌∷◌, ◌++◌, length, replicate,
+  ℕ,
+  zero,
+  suc,
+  ◌+◌,
+  ◌/◌,
+  ◌%◌,
+  ◌≡◌,
+  refl,
+  List,
+  [],
+  ◌∷◌,
+  ◌++◌,
+  length,
+  replicate,
 }
 use Rattle.search.specs.Every.{every, some}
 use Rattle.search.specs.Least.{least_from}
 use Rattle.table.specs.Packed.{
-  units, outputs, inputs, feeds, output_owners, input_owners, kinds, sources, pairs as feed_bytes,
+  units,
+  outputs,
+  inputs,
+  feeds,
+  output_owners,
+  input_owners,
+  kinds,
+  sources,
+  pairs as feed_bytes,
   asked,
 }
 use Rattle.table.specs.Check.{
-  refuse as check_refuse, counts_in, all_below, is_pair, feed_known, feed_again, feeds_from, wiring,
+  refuse as check_refuse,
+  counts_in,
+  all_below,
+  is_pair,
+  feed_known,
+  feed_again,
+  feeds_from,
+  wiring,
   refusal,
 }
 use Rattle.calls.specs.Number.{call_in}
@@ -23,15 +51,43 @@ use Rattle.grammar.specs.Quoted.{ascii}
 use Rattle.grammar.specs.Words.{same, allowed}
 use Rattle.grammar.specs.Rows.{grown, parted, rows, word, place, times, line_of, first_bad}
 use Rattle.grammar.specs.Draft.{
-  blank, unit_named, output_named, input_named, feed_of, loose, known, add_unit, add_output,
-  add_input, add_feed, joined, add_join,
+  blank,
+  unit_named,
+  output_named,
+  input_named,
+  feed_of,
+  loose,
+  known,
+  add_unit,
+  add_output,
+  add_input,
+  add_feed,
+  joined,
+  add_join,
 }
 use Rattle.grammar.specs.Lines.{
-  refused, refuse, taken, is_name, faulty, kind_of, unit_line, out_line, in_line, feed_line,
-  join_line, line,
+  refused,
+  refuse,
+  taken,
+  is_name,
+  faulty,
+  kind_of,
+  unit_line,
+  out_line,
+  in_line,
+  feed_line,
+  join_line,
+  line,
 }
 use Rattle.grammar.specs.Reading.{
-  stopped, pairs, packed, ending, lines_from, version, line_by_line, reading,
+  stopped,
+  pairs,
+  packed,
+  ending,
+  lines_from,
+  version,
+  line_by_line,
+  reading,
 }
 use Rattle.grammar.specs.Opening.{lines_of}
 use Rattle.pen.specs.Decimal.{spell, decimal}
@@ -92,12 +148,15 @@ pub examples :
     × (listing [] ≡ ascii "refused\t20\t0\n")
     × (length (listing greatest_text) ≡ 8860)
 unfolding every some least_from units outputs inputs feeds output_owners input_owners kinds sources
-    feed_bytes asked check_refuse counts_in all_below is_pair feed_known feed_again feeds_from wiring
+    feed_bytes asked check_refuse counts_in all_below is_pair feed_known feed_again feeds_from
+    wiring
     refusal call_in feeds_to has_kind by_kind before precedes ready next_call sort placed upto
     lowest_before walk lowest_left met lowest_of lowest_place shown placed_of shown_of settled
     ordering allowed same grown parted rows word place times line_of first_bad blank unit_named
-    output_named input_named feed_of loose known add_unit add_output add_input add_feed joined add_join
-    refused refuse taken is_name faulty kind_of unit_line out_line in_line feed_line join_line line stopped
+    output_named input_named feed_of loose known add_unit add_output add_input add_feed joined
+    add_join
+    refused refuse taken is_name faulty kind_of unit_line out_line in_line feed_line join_line line
+    stopped
     pairs packed ending lines_from version line_by_line reading lines_of decimal spell printed entry
     entries calls_text refusal_text outcome_text listing
 examples = (refl, refl, refl, refl, refl)

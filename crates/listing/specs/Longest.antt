@@ -42,7 +42,8 @@ place-long k h = elim (dec_lt k 10) [
 ]
 
 module _ (units outputs inputs : List Row) (us : (i : ℕ) → Spelled (get_or units i []))
-    (ys : (i : ℕ) → Spelled (get_or outputs i [])) (xs : (i : ℕ) → Spelled (get_or inputs i [])) where
+    (ys : (i : ℕ) → Spelled (get_or outputs i [])) (xs : (i : ℕ)
+    → Spelled (get_or inputs i [])) where
   -- ---- one line
 
   step-most : (k u : ℕ) → length (entry units outputs inputs k (Step u)) ≤ length (decimal k) + 25

@@ -40,7 +40,8 @@ module _ (t : List ℕ) (a : ℕ) where
   unfolding same
   empty-lf h e = rw (field_here h, eq-eqb _ _ e)
 
-  pub empty-tab : a < length t → (get_or t a 0 ≡ 10 → ⊥) → eqb (get_or t a 0) 9 ≡ same [] (field_at t a)
+  pub empty-tab : a < length t → (get_or t a 0 ≡ 10 → ⊥) → eqb (get_or t a 0) 9
+      ≡ same [] (field_at t a)
   unfolding same
   empty-tab h n = rw (field_here h, ne_eqb _ _ n) (go (eqb (get_or t a 0) 9))
     where
@@ -60,11 +61,13 @@ open_field t a o = rw (field_here t a o.inside, o.not-lf, o.not-tab)
 pub is_open : (t : List ℕ) (a : ℕ) → same [] (field_at t a) ≡ false → Open t a
 unfolding same
 is_open t a e = elim (dec_lt a (length t)) [
-  | yes h ↦ go h (eqb (get_or t a 0) 10) refl (eqb (get_or t a 0) 9) refl (rw (field_here t a h) at e)
+  | yes h ↦ go h (eqb (get_or t a 0) 10) refl (eqb (get_or t a 0) 9) refl
+      (rw (field_here t a h) at e)
   | no h ↦ absurd (mathlib.Core.Bool.true≢false (rw (field_past t a (omega arith)) at e))
 ]
   where
-    go : a < length t → (b : Bool) → eqb (get_or t a 0) 10 ≡ b → (c : Bool) → eqb (get_or t a 0) 9 ≡ c
+    go : a < length t → (b : Bool) → eqb (get_or t a 0) 10 ≡ b → (c : Bool) → eqb (get_or t a 0) 9
+        ≡ c
         → same [] (cond b [] (cond c [] (get_or t a 0 ∷ field_at t (a + 1)))) ≡ false → Open t a
     go h false p false q z = record { inside = h; not-lf = p; not-tab = q }
     go h true p c q z = absurd (mathlib.Core.Bool.true≢false z)

@@ -1,6 +1,20 @@
 -- A name in the text beside a word, byte by byte.
 use Rattle.std.specs.Prelude.{
-  ℕ, ◌+◌, ◌-◌, ◌≤◌, ◌<◌, ◌≡◌, Bool, not, cond, List, length, get_or, drop, eqb, ltb,
+  ℕ,
+  ◌+◌,
+  ◌-◌,
+  ◌≤◌,
+  ◌<◌,
+  ◌≡◌,
+  Bool,
+  not,
+  cond,
+  List,
+  length,
+  get_or,
+  drop,
+  eqb,
+  ltb,
 }
 use Rattle.grammar.specs.Rows.{front, field_at}
 use Rattle.notes.specs.Compared.{compared}

@@ -9,7 +9,13 @@ use lib.ListN.{length, get_or, set, length-set}
 use lib.Seq.{get_or-set_same, get_or-set_other}
 use Rattle.grammar.specs.Rows.{field_at}
 use Rattle.grammar.specs.Draft.{
-  add_unit, add_output, add_input, add_feed, add_join, joined, no_input,
+  add_unit,
+  add_output,
+  add_input,
+  add_feed,
+  add_join,
+  joined,
+  no_input,
 }
 use Rattle.notes.specs.Layout.{outputs_base, inputs_base, lines_base, owners_base}
 use Rattle.notes.specs.Layout.{output_owners, input_owners, kinds_base, sources_base}

@@ -31,7 +31,8 @@ put_does s b n u i l h g =
 module _ (t p s : List ℕ) (c : Counts) (k : ℕ) (fit : Fit t p s c) where
   pub declares-stands : {e : Entry} {d : Draft} → Declares t p s c k e d
       → Stands t (places_with p c e k) (slots_with s c e) (counts_with c e) d
-  unfolding places_with slots_with counts_with named_places named_slots input_places input_slots feed_slots
+  unfolding places_with slots_with counts_with named_places named_slots input_places input_slots
+      feed_slots
       join_slots
   declares-stands (unit e w o h b) =
       rw (w, o)

@@ -70,7 +70,8 @@ module _ (t p s q r : List ℕ) where
 
   -- a key of a name that is kept
   key-kept : (k : ℕ) → get_or q k 0 ≡ get_or p k 0
-      → get_or r (owners_base + k) 0 ≡ get_or s (owners_base + k) 0 → key_at t q r k ≡ key_at t p s k
+      → get_or r (owners_base + k) 0 ≡ get_or s (owners_base + k) 0 → key_at t q r k
+      ≡ key_at t p s k
   unfolding key_at name_at
   key-kept k a b = rw (a, b)
 

@@ -32,7 +32,8 @@ module _ (t p s : List ℕ) (b n a u i : ℕ) (f : Ranked t p s b n)
         put.above (owners_base + (b + n)) (omega arith)
         ∙ get_or-set_same s (owners_base + (b + n)) u 0 (omega arith)
 
-    owner-kept : (k : ℕ) → k < n → get_or r (owners_base + (b + k)) 0 ≡ get_or s (owners_base + (b + k)) 0
+    owner-kept : (k : ℕ) → k < n → get_or r (owners_base + (b + k)) 0
+        ≡ get_or s (owners_base + (b + k)) 0
     owner-kept k h =
         put.above (owners_base + (b + k)) (omega arith)
         ∙ get_or-set_other s (owners_base + (b + n)) (owners_base + (b + k)) u 0 (λ e. omega arith)

@@ -54,7 +54,8 @@ module _ (s r : List ℕ) (a e i : ℕ) (m : Moving s r a e i) (wide : e < lengt
   all_moved h v = record {
     long = length-set r a v ∙ m.long;
     here = get_or-set_same r a v 0 (omega (arith, m.long, m.low, m.high));
-    moved = λ j x y. get_or-set_other r a (j + 1) v 0 (λ k. omega arith) ∙ m.moved j (omega arith) y;
+    moved = λ j x y. get_or-set_other r a (j + 1) v 0 (λ k. omega arith)
+        ∙ m.moved j (omega arith) y;
     below = λ j x. get_or-set_other r a j v 0 (λ k. omega arith) ∙ m.below j (omega (arith, m.low));
     above = λ j x. get_or-set_other r a j v 0 (λ k. omega (arith, m.low, m.high)) ∙ m.above j x;
   }

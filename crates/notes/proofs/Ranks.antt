@@ -175,7 +175,8 @@ module _ (t p s : List ℕ) (b n : ℕ) (f : Ranked t p s b n) (u : ℕ) (w : Li
       not_found (named t p s b u w) n n (omega arith) (omega arith)
       (λ k h. other k (λ e. none k e (f.rank k h)))
     where
-      none : (k : ℕ) → key_at t p s (b + k) ≡ u ∷ w → (j : ℕ) × (j < n) × (get_or s (b + j) 0 ≡ k) → ⊥
+      none : (k : ℕ) → key_at t p s (b + k) ≡ u ∷ w → (j : ℕ) × (j < n) × (get_or s (b + j) 0 ≡ k)
+          → ⊥
       none k e (j, g, z) =
           let a : beside j ≡ 1 = rw (by_rank j k z ∙ e) (compared-self (u ∷ w)) in
           elim (dec_lt j i) [

@@ -3,8 +3,18 @@ use Prim.Native.Nat.{ℕ, zero, suc, ◌+◌, ◌≤◌, ◌<◌}
 use Rattle.std.specs.Prelude.{◌≡◌, take, drop, set}
 use Rattle.std.proofs.Math.Path.{refl, ap}
 use Rattle.std.proofs.Common.{
-  sym, ◌∙◌, add-one, arith, length-set, length-drop, get_or-set_same, get_or-set_other, ext_get_or,
-  get_or-take, get_or-drop, length-take-le,
+  sym,
+  ◌∙◌,
+  add-one,
+  arith,
+  length-set,
+  length-drop,
+  get_or-set_same,
+  get_or-set_other,
+  ext_get_or,
+  get_or-take,
+  get_or-drop,
+  length-take-le,
 }
 use mathlib.Core.List.{List, [], ◌∷◌, ◌++◌, map}
 use Rattle.std.proofs.Math.Decide.{ℕ_discrete, dec_lt}

@@ -1,10 +1,30 @@
 -- One declaration more: what becomes of the arrays and of the counts, and what it is in the draft.
 use Rattle.std.specs.Prelude.{
-  ℕ, ◌+◌, ◌-◌, ◌*◌, ◌≤◌, ◌<◌, ◌≡◌, cond, List, length, get_or, set, eqb, ltb, leb,
+  ℕ,
+  ◌+◌,
+  ◌-◌,
+  ◌*◌,
+  ◌≤◌,
+  ◌<◌,
+  ◌≡◌,
+  cond,
+  List,
+  length,
+  get_or,
+  set,
+  eqb,
+  ltb,
+  leb,
 }
 use Rattle.grammar.specs.Rows.{field_at}
 use Rattle.grammar.specs.Draft.{
-  Draft, unjoined, add_unit, add_output, add_input, add_feed, add_join,
+  Draft,
+  unjoined,
+  add_unit,
+  add_output,
+  add_input,
+  add_feed,
+  add_join,
 }
 use Rattle.notes.specs.Layout.{outputs_base, inputs_base, lines_base, owners_base, kinds_base}
 use Rattle.notes.specs.Layout.{sources_base, feeds_base, fed_base, places_size, slots_size}
@@ -46,7 +66,8 @@ no_entry = record { what = 0; owner = 0; rank = 0; kind = 0; input = 0; output =
 -- the same as a list: what stands at place i once v was put in at place a
 unfoldable pub shifted : List ℕ → ℕ → ℕ → ℕ → ℕ → ℕ
 shifted s a e v i =
-    cond (ltb i a) (get_or s i 0) (cond (eqb i a) v (cond (leb i e) (get_or s (i - 1) 0) (get_or s i 0)))
+    cond (ltb i a) (get_or s i 0) (cond (eqb i a) v
+    (cond (leb i e) (get_or s (i - 1) 0) (get_or s i 0)))
 
 unfoldable pub put_in : List ℕ → ℕ → ℕ → ℕ → List ℕ
 put_in s a e v = listed (shifted s a e v) (length s)

@@ -26,7 +26,11 @@ input_at t p s x =
     }
 
 unfoldable pub feed_at : List ℕ → ℕ → Feed
-feed_at s k = record { input = get_or s (feeds_base + 2 * k) 0; output = get_or s (fed_base + 2 * k) 0 }
+feed_at s k = record {
+  input = get_or s (feeds_base + 2 * k) 0;
+  output =
+      get_or s (fed_base + 2 * k) 0;
+}
 
 -- the draft that the notes stand for
 unfoldable pub draft_of : List ℕ → List ℕ → List ℕ → Counts → Draft

@@ -1,6 +1,21 @@
 -- Keeping the rules said call by call, from a set of calls that are done: the form for inductions.
 use Rattle.std.specs.Prelude.{
-  ◌≡◌, refl, ◌≢◌, Bool, not, List, [], ◌∷◌, ℕ, zero, suc, ◌+◌, ◌<◌, T, length, get_or,
+  ◌≡◌,
+  refl,
+  ◌≢◌,
+  Bool,
+  not,
+  List,
+  [],
+  ◌∷◌,
+  ℕ,
+  zero,
+  suc,
+  ◌+◌,
+  ◌<◌,
+  T,
+  length,
+  get_or,
 }
 use Rattle.std.proofs.Common.{sym, ap, inl, inr, arith}
 use Rattle.std.proofs.Math.Decide.{ℕ_discrete}

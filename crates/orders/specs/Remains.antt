@@ -1,6 +1,19 @@
 -- What is placed and what remains: where placing stops early, each that remains waits for another.
 use Rattle.std.specs.Prelude.{
-  ◌≡◌, refl, Bool, true, false, not, ◌||◌, ◌&&◌, List, ◌∷◌, T, eqb, length, get_or,
+  ◌≡◌,
+  refl,
+  Bool,
+  true,
+  false,
+  not,
+  ◌||◌,
+  ◌&&◌,
+  List,
+  ◌∷◌,
+  T,
+  eqb,
+  length,
+  get_or,
 }
 use Rattle.std.proofs.Common.{sym, ◌∙◌}
 use Rattle.std.proofs.Math.Path.{ap, subst, fun_ext}

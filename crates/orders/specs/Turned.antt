@@ -1,10 +1,36 @@
 -- A cycle begun at another of its places is a cycle; begun at its lowest call, it begins with it.
 use Rattle.std.specs.Prelude.{
-  ◌≡◌, refl, ◌⊎◌, Bool, List, [], ◌∷◌, ℕ, zero, suc, ◌+◌, ◌-◌, ◌≤◌, ◌<◌, T, length, get_or, take,
+  ◌≡◌,
+  refl,
+  ◌⊎◌,
+  Bool,
+  List,
+  [],
+  ◌∷◌,
+  ℕ,
+  zero,
+  suc,
+  ◌+◌,
+  ◌-◌,
+  ◌≤◌,
+  ◌<◌,
+  T,
+  length,
+  get_or,
+  take,
   drop,
 }
 use Rattle.std.proofs.Common.{
-  sym, ◌∙◌, inl, inr, arith, length-append, length-take, length-drop, get_or-take, get_or-drop,
+  sym,
+  ◌∙◌,
+  inl,
+  inr,
+  arith,
+  length-append,
+  length-take,
+  length-drop,
+  get_or-take,
+  get_or-drop,
   get_or-append-add,
 }
 use Rattle.std.proofs.Math.Decide.{ℕ_discrete, dec_lt, dec_le}
@@ -90,7 +116,8 @@ module _ (k : ℕ) (cs : List ℕ) (h : k < length cs) where
       ]
     ]
 
-    turn_last : (z : ℕ) → suc z ≡ length cs → T (pred (get_or (turn k cs) z 0) (get_or (turn k cs) 0 0))
+    turn_last : (z : ℕ) → suc z ≡ length cs
+        → T (pred (get_or (turn k cs) z 0) (get_or (turn k cs) 0 0))
     turn_last z e = elim (ℕ_discrete k 0) [
       | yes p ↦
           rw (
@@ -155,7 +182,8 @@ module _ (N : ℕ) (cs : List ℕ) (some : 0 < length cs)
       let (i, h, e) = at-among r cs lowest_of_in in
       elim (dec_lt (lowest_place N cs) (length cs)) [
         | yes p ↦ (p, eqb→eq (get_or cs (lowest_place N cs) 0) r (l.passes p))
-        | no p ↦ absurd (clash (eqb (get_or cs i 0) r) (rw e (eqb_refl r)) (l.below i (omega arith)))
+        | no p ↦ absurd (clash (eqb (get_or cs i 0) r) (rw e (eqb_refl r))
+            (l.below i (omega arith)))
       ]
 
   pub lowest-first : (i : ℕ) → i < length cs

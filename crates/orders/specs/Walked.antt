@@ -1,6 +1,19 @@
 -- One visit of the backward walk, and that it stays among calls that remain.
 use Rattle.std.specs.Prelude.{
-  ◌≡◌, Bool, List, [], ◌∷◌, ℕ, zero, suc, ◌<◌, T, eqb, length, get_or, take,
+  ◌≡◌,
+  Bool,
+  List,
+  [],
+  ◌∷◌,
+  ℕ,
+  zero,
+  suc,
+  ◌<◌,
+  T,
+  eqb,
+  length,
+  get_or,
+  take,
 }
 use Rattle.std.proofs.Common.{sym, ap, arith}
 use Rattle.std.proofs.Math.Bool.{not}
@@ -18,7 +31,8 @@ module _ (N : ℕ) (pred : ℕ → ℕ → Bool) (done : ℕ → Bool) where
   walk-met n seen c t = rw (is_true (among seen c) t, walk)
 
   pub walk_on : (n : ℕ) (seen : List ℕ) (c : ℕ) → T (not (among seen c))
-      → walk N pred done (suc n) seen c ≡ walk N pred done n (c ∷ seen) (lowest_before N pred done c)
+      → walk N pred done (suc n) seen c
+      ≡ walk N pred done n (c ∷ seen) (lowest_before N pred done c)
   unfolding walk
   walk_on n seen c t = rw (is_false (among seen c) t, walk)
 

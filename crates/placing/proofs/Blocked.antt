@@ -134,7 +134,8 @@ module _ (keys : List ℕ) (key first from a z : ℕ) (e : a ≡ reach from (len
 
   pub row_room : (high low before after : List ℕ)
       → ((c : ℕ) → hits (is_key keys key) (nth first) (length keys) c ≤ get_or high c 0)
-      → Lowered (hits (is_key keys key) (nth first) (reach from (length keys))) high low before after
+      → Lowered (hits (is_key keys key) (nth first) (reach from (length keys))) high low before
+      after
       → (c : ℕ) → hits (is_key row key) (nth (first + a)) (length row) c ≤ get_or low c 0
   row_room high low before after enough l =
       stretch-room (is_key keys key) (is_key row key) (nth first) (nth (first + a)) a z (length row)
@@ -182,10 +183,12 @@ module _ (keys : List ℕ) (key : ℕ) (others : List ℕ) (other first from a z
   rows-fits h = omega (arith, rows_long)
 
   pub rows-room : (high low before after : List ℕ)
-      → ((c : ℕ) → hits (are_keys keys key others other) (nth first) (length keys) c ≤ get_or high c 0)
+      → ((c : ℕ) → hits (are_keys keys key others other) (nth first) (length keys) c ≤ get_or high
+      c 0)
       → Lowered (hits (are_keys keys key others other) (nth first) (reach from (length keys))) high
       low before after
-      → (c : ℕ) → hits (are_keys one key two other) (nth (first + a)) (length one) c ≤ get_or low c 0
+      → (c : ℕ) → hits (are_keys one key two other) (nth (first + a)) (length one) c ≤ get_or low c
+      0
   rows-room high low before after enough l =
       stretch-room (are_keys keys key others other) (are_keys one key two other) (nth first)
       (nth (first + a)) a z (length one)
@@ -196,9 +199,11 @@ module _ (keys : List ℕ) (key : ℕ) (others : List ℕ) (other first from a z
       → Lowered (hits (are_keys keys key others other) (nth first) (reach from (length keys))) high
       middle before
       between
-      → Lowered (hits (are_keys one key two other) (nth (first + a)) (length one)) middle low between
+      → Lowered (hits (are_keys one key two other) (nth (first + a)) (length one)) middle low
+      between
       after
-      → Lowered (hits (are_keys keys key others other) (nth first) (reach (from + 24) (length keys)))
+      → Lowered (hits (are_keys keys key others other) (nth first)
+      (reach (from + 24) (length keys)))
       high low
       before after
   rows_on high middle low before between after l m =
@@ -239,18 +244,21 @@ module _ (pairs : List ℕ) (count input first from a z : ℕ) (e : a ≡ reach 
       after
       → (c : ℕ) → hits (is_input some input) (fed some first) (z - a) c ≤ get_or low c 0
   feeds-room high low before after enough l =
-      stretch-room (is_input pairs input) (is_input some input) (fed pairs first) (fed some first) a z
+      stretch-room (is_input pairs input) (is_input some input) (fed pairs first) (fed some first)
+      a z
       (z - a) (omega arith) refl feeds-input feeds-call count high low before after (omega arith)
       enough (rw e l)
 
   pub feeds_on : (high middle low before between after : List ℕ)
-      → Lowered (hits (is_input pairs input) (fed pairs first) (reach from count)) high middle before
+      → Lowered (hits (is_input pairs input) (fed pairs first) (reach from count)) high middle
+      before
       between
       → Lowered (hits (is_input some input) (fed some first) (z - a)) middle low between after
       → Lowered (hits (is_input pairs input) (fed pairs first) (reach (from + 32) count)) high low
       before after
   feeds_on high middle low before between after l m =
       rw (← f)
-      (stretch_on (is_input pairs input) (is_input some input) (fed pairs first) (fed some first) a z
+      (stretch_on (is_input pairs input) (is_input some input) (fed pairs first) (fed some first) a
+      z
       (z - a) (omega arith) refl feeds-input feeds-call high middle low before between after
       (rw e l) m)

@@ -12,7 +12,8 @@ use Rattle.placing.specs.Less.{called}
 use Rattle.placing.specs.Blocks.{Block, Noting, Owned, Joined}
 
 -- of an equal row
-at_row : (row row' notes : List ℕ) (i b : ℕ) → row ≡ row' → Block (get_or notes (get_or row i 0) 0) b
+at_row : (row row' notes : List ℕ) (i b : ℕ) → row ≡ row'
+    → Block (get_or notes (get_or row i 0) 0) b
     → Block (get_or notes (get_or row' i 0) 0) b
 at_row row row' notes i b e h = subst (λ l. Block (get_or notes (get_or l i 0) 0) b) e h
 

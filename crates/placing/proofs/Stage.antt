@@ -193,7 +193,8 @@ module _ (t : List ℕ) where
       → length l ≡ k → take k (placed_of t) ≡ l
   stage_front l counts bits last k g e =
       rw g.whole
-      (take_at l (sort (call_count t) (precedes (shape_of t)) (call_count t - length l) (among l)) k e)
+      (take_at l (sort (call_count t) (precedes (shape_of t)) (call_count t - length l) (among l))
+      k e)
 
   -- where no more can be placed
   module _ (l counts bits : List ℕ) (last : ℕ) (g : Stage l counts bits last)
@@ -235,178 +236,182 @@ fell false p q a b = rw (b tt) (clear q)
 -- ---- one call more
 module _ (t : List ℕ) (ok : Sound t) (l counts bits : List ℕ) (last : ℕ)
     (g : Stage t l counts bits last) (c : ℕ)
-    (e : c ≡ next_call (call_count t) (precedes (shape_of t)) (among l)) (h : c < call_count t) where
-  -- the call placed is new, and its predecessors are placed
-  new : T (not (among l c))
-  new = rw e ((next-is (call_count t) (precedes (shape_of t)) (among l)).is (rw (← e) h)).0
+    (e : c ≡ next_call (call_count t) (precedes (shape_of t)) (among l)) (h : c < call_count t)
+  where
+    -- the call placed is new, and its predecessors are placed
+    new : T (not (among l c))
+    new = rw e ((next-is (call_count t) (precedes (shape_of t)) (among l)).is (rw (← e) h)).0
 
-  after : (a : ℕ) → T (precedes (shape_of t) a c) → T (among l a)
-  after a p =
-      ((next-is (call_count t) (precedes (shape_of t)) (among l)).is (rw (← e) h)).1 a
-      (calls-only (shape_of t) a c p).0 (rw (← e) p)
+    after : (a : ℕ) → T (precedes (shape_of t) a c) → T (among l a)
+    after a p =
+        ((next-is (call_count t) (precedes (shape_of t)) (among l)).is (rw (← e) h)).1 a
+        (calls-only (shape_of t) a c p).0 (rw (← e) p)
 
-  -- it gives nothing to a call that is placed
-  to-placed : (x : ℕ) → T (add c (among l) x) → into (shape_of t) (only c) x ≡ 0
-  to-placed x z =
-      none-into (shape_of t) (only c) x
-      (λ a p q.
-      let r : T (precedes (shape_of t) c x) =
-      subst (λ b. T (precedes (shape_of t) b x)) (eqb→eq a c q)
-      ((precedes_iff (shape_of t) ok.wired a x).0 p) in
-      elim (add_cases c (among l) x z) [
-        | inl y ↦ clash (precedes (shape_of t) c c) (subst (λ b. T (precedes (shape_of t) c b)) y r)
-            (not-self (shape_of t) c)
-        | inr y ↦ clash (among l c) (g.closed c x y r) new
-      ])
+    -- it gives nothing to a call that is placed
+    to-placed : (x : ℕ) → T (add c (among l) x) → into (shape_of t) (only c) x ≡ 0
+    to-placed x z =
+        none-into (shape_of t) (only c) x
+        (λ a p q.
+        let r : T (precedes (shape_of t) c x) =
+        subst (λ b. T (precedes (shape_of t) b x)) (eqb→eq a c q)
+        ((precedes_iff (shape_of t) ok.wired a x).0 p) in
+        elim (add_cases c (among l) x z) [
+          | inl y ↦
+              clash (precedes (shape_of t) c c)
+              (subst (λ b. T (precedes (shape_of t) c b)) y r) (not-self (shape_of t) c)
+          | inr y ↦ clash (among l c) (g.closed c x y r) new
+        ])
 
-  -- a call that is left has lost what c gave it
-  to-left : (x : ℕ) → T (not (add c (among l) x))
-      → get_or counts x 0
-      ≡ into (shape_of t) (λ a. not (add c (among l) a)) x + into (shape_of t) (only c) x
-  to-left x z =
-      g.waiting.left x (add-not c (among l) x z).1
-      ∙ sym (into-part (shape_of t) (among l) c x new)
+    -- a call that is left has lost what c gave it
+    to-left : (x : ℕ) → T (not (add c (among l) x))
+        → get_or counts x 0
+        ≡ into (shape_of t) (λ a. not (add c (among l) a)) x + into (shape_of t) (only c) x
+    to-left x z =
+        g.waiting.left x (add-not c (among l) x z).1
+        ∙ sym (into-part (shape_of t) (among l) c x new)
 
-  pub stage_long : length (set counts c last) ≡ 224
-  stage_long = length-set counts c last ∙ g.waiting.long
+    pub stage_long : length (set counts c last) ≡ 224
+    stage_long = length-set counts c last ∙ g.waiting.long
 
-  here : get_or (set counts c last) c 0 ≡ last
-  here = get_or-set_same counts c last 0 (omega (arith, g.waiting.long, few-calls t ok))
+    here : get_or (set counts c last) c 0 ≡ last
+    here = get_or-set_same counts c last 0 (omega (arith, g.waiting.long, few-calls t ok))
 
-  there : (x : ℕ) → x ≢ c → get_or (set counts c last) x 0 ≡ get_or counts x 0
-  there x ne = get_or-set_other counts c x last 0 ne
+    there : (x : ℕ) → x ≢ c → get_or (set counts c last) x 0 ≡ get_or counts x 0
+    there x ne = get_or-set_other counts c x last 0 ne
 
-  -- what c gives is there to be taken
-  pub stage_room : (x : ℕ) → into (shape_of t) (only c) x ≤ get_or (set counts c last) x 0
-  stage_room x = elim (either (add c (among l) x)) [
-    | inl z ↦ omega (arith, to-placed x z)
-    | inr z ↦ omega (arith, to-left x z, there x (add-not c (among l) x z).0)
-  ]
+    -- what c gives is there to be taken
+    pub stage_room : (x : ℕ) → into (shape_of t) (only c) x ≤ get_or (set counts c last) x 0
+    stage_room x = elim (either (add c (among l) x)) [
+      | inl z ↦ omega (arith, to-placed x z)
+      | inr z ↦ omega (arith, to-left x z, there x (add-not c (among l) x z).0)
+    ]
 
-  module _ (low after' : List ℕ)
-      (w : Lowered (into (shape_of t) (only c)) (set counts c last) low (drop bits c) after') where
-    -- what stays placed keeps its byte
-    placed-low : (x : ℕ) → T (add c (among l) x) → get_or low x 0 ≡ get_or (set counts c last) x 0
-    placed-low x z = omega (arith, w.falls.less x, to-placed x z)
+    module _ (low after' : List ℕ)
+        (w : Lowered (into (shape_of t) (only c)) (set counts c last) low (drop bits c) after') where
+      -- what stays placed keeps its byte
+      placed-low : (x : ℕ) → T (add c (among l) x)
+          → get_or low x 0 ≡ get_or (set counts c last) x 0
+      placed-low x z = omega (arith, w.falls.less x, to-placed x z)
 
-    left-low : (x : ℕ) → T (not (add c (among l) x))
-        → get_or low x 0 ≡ into (shape_of t) (λ a. not (add c (among l) a)) x
-    left-low x z =
-        omega (arith, w.falls.less x, to-left x z, there x (add-not c (among l) x z).0)
+      left-low : (x : ℕ) → T (not (add c (among l) x))
+          → get_or low x 0 ≡ into (shape_of t) (λ a. not (add c (among l) a)) x
+      left-low x z =
+          omega (arith, w.falls.less x, to-left x z, there x (add-not c (among l) x z).0)
 
-    small : c < 256
-    small = omega (arith, few-calls t ok)
+      small : c < 256
+      small = omega (arith, few-calls t ok)
 
-    -- the bits without c
-    dropped : (x : ℕ) → has (drop bits c) x ≡ without c (has bits) x
-    dropped x = ap (λ q. q x) (drop-has bits c small g.waiting.words)
+      -- the bits without c
+      dropped : (x : ℕ) → has (drop bits c) x ≡ without c (has bits) x
+      dropped x = ap (λ q. q x) (drop-has bits c small g.waiting.words)
 
-    bits-placed : (x : ℕ) → T (add c (among l) x) → has after' x ≡ false
-    unfolding waits
-    bits-placed x z =
-        w.freed x
-        ∙ rw (placed-low x z, dropped x, gone (add_cases c (among l) x z))
-        (clear (eqb (get_or (set counts c last) x 0) 0))
-      where
-        gone : (x ≡ c) ⊎ T (among l x) → without c (has bits) x ≡ false
-        gone (inl u) = rw (is_true (eqb x c) (eq_true x c u))
-        gone (inr u) =
-            rw (g.waiting.bits x, is_true (among l x) u, and-false (ltb x (call_count t)))
-            (and-false (not (eqb x c)))
+      bits-placed : (x : ℕ) → T (add c (among l) x) → has after' x ≡ false
+      unfolding waits
+      bits-placed x z =
+          w.freed x
+          ∙ rw (placed-low x z, dropped x, gone (add_cases c (among l) x z))
+          (clear (eqb (get_or (set counts c last) x 0) 0))
+        where
+          gone : (x ≡ c) ⊎ T (among l x) → without c (has bits) x ≡ false
+          gone (inl u) = rw (is_true (eqb x c) (eq_true x c u))
+          gone (inr u) =
+              rw (g.waiting.bits x, is_true (among l x) u, and-false (ltb x (call_count t)))
+              (and-false (not (eqb x c)))
 
-    bits_left : (x : ℕ) → T (not (add c (among l) x))
-        → has after' x ≡ (ltb x (call_count t) && eqb (get_or low x 0) 0)
-    unfolding waits
-    bits_left x z =
-        let (ne, n) = add-not c (among l) x z in
-        w.freed x
-        ∙ rw (
-          dropped x,
-          is_false (eqb x c) (eq_false x c ne),
-          g.waiting.bits x,
-          is_false (among l x) n,
-          ← (g.waiting.left x n),
-          there x ne,
-        )
-        (fell (ltb x (call_count t)) (eqb (get_or low x 0) 0) (eqb (get_or counts x 0) 0)
-        (λ y. eq_true (get_or low x 0) 0
-        (let z = eqb→eq (get_or counts x 0) 0 y in omega (arith, w.falls.less x, there x ne)))
-        (λ y. past ne (nltb→le x (call_count t) y)))
-      where
-        -- behind the last call nothing is lowered
-        past : x ≢ c → call_count t ≤ x → eqb (get_or low x 0) 0 ≡ eqb (get_or counts x 0) 0
-        past ne y =
-            let same : get_or low x 0 ≡ get_or counts x 0 =
-            omega (
-              arith,
-              w.falls.less x,
-              there x ne,
-              into-past (shape_of t) (only c) ok.wired x y,
-            ) in
-            ap (λ k. eqb k 0) same
+      bits_left : (x : ℕ) → T (not (add c (among l) x))
+          → has after' x ≡ (ltb x (call_count t) && eqb (get_or low x 0) 0)
+      unfolding waits
+      bits_left x z =
+          let (ne, n) = add-not c (among l) x z in
+          w.freed x
+          ∙ rw (
+            dropped x,
+            is_false (eqb x c) (eq_false x c ne),
+            g.waiting.bits x,
+            is_false (among l x) n,
+            ← (g.waiting.left x n),
+            there x ne,
+          )
+          (fell (ltb x (call_count t)) (eqb (get_or low x 0) 0) (eqb (get_or counts x 0) 0)
+          (λ y. eq_true (get_or low x 0) 0
+          (let z = eqb→eq (get_or counts x 0) 0 y in omega (arith, w.falls.less x, there x ne)))
+          (λ y. past ne (nltb→le x (call_count t) y)))
+        where
+          -- behind the last call nothing is lowered
+          past : x ≢ c → call_count t ≤ x → eqb (get_or low x 0) 0 ≡ eqb (get_or counts x 0) 0
+          past ne y =
+              let same : get_or low x 0 ≡ get_or counts x 0 =
+              omega (
+                arith,
+                w.falls.less x,
+                there x ne,
+                into-past (shape_of t) (only c) ok.wired x y,
+              ) in
+              ap (λ k. eqb k 0) same
 
-    waiting_on : Waiting (shape_of t) (add c (among l)) low after'
-    unfolding waits
-    waiting_on = record {
-      long = w.falls.long ∙ stage_long;
-      left = left-low;
-      words = w.words;
-      bits = λ x. elim (either (add c (among l) x)) [
-        | inl z ↦
-            bits-placed x z
-            ∙ rw (is_true (add c (among l) x) z) (sym (and-false (ltb x (call_count t))))
-        | inr z ↦
-            bits_left x z
-            ∙ rw (is_false (add c (among l) x) z, left-low x z)
-      ];
-    }
+      waiting_on : Waiting (shape_of t) (add c (among l)) low after'
+      unfolding waits
+      waiting_on = record {
+        long = w.falls.long ∙ stage_long;
+        left = left-low;
+        words = w.words;
+        bits = λ x. elim (either (add c (among l) x)) [
+          | inl z ↦
+              bits-placed x z
+              ∙ rw (is_true (add c (among l) x) z) (sym (and-false (ltb x (call_count t))))
+          | inr z ↦
+              bits_left x z
+              ∙ rw (is_false (add c (among l) x) z, left-low x z)
+        ];
+      }
 
-    pub stage_on : length l < call_count t → Stage t (l ++ (c ∷ [])) low after' c
-    stage_on room =
-        let members = among-end l c in
-        let more : length (l ++ (c ∷ [])) ≡ suc (length l) =
-        length-append l (c ∷ []) ∙ omega arith in
-        record {
-          most = omega (arith, more, room);
-          whole = rw (members, more) (step room);
-          waiting = rw members waiting_on;
-          thread = λ x z. elim (add_cases c (among l) x (subst (λ q. T (q x)) members z)) [
-            | inl y ↦
-                rw y
-                (placed-low c (add-self c (among l)) ∙ here ∙ g.last-is
-                ∙ sym (prior-end 255 l c new))
-            | inr y ↦
-                placed-low x (add-more c (among l) x y)
-                ∙ there x (λ u. clash (among l c) (subst (λ v. T (among l v)) u y) new)
-                ∙ g.thread x y
-                ∙ sym (prior-more 255 l c x y)
-          ];
-          last-is = sym (last_of-end 255 l c);
-          known = λ x z. elim (add_cases c (among l) x (subst (λ q. T (q x)) members z)) [
-            | inl y ↦ rw y h
-            | inr y ↦ g.known x y
-          ];
-          closed = λ a x z p. subst (λ q. T (q a)) (sym members)
-              (add-more c (among l) a
-              (elim (add_cases c (among l) x (subst (λ q. T (q x)) members z)) [
-                | inl y ↦ after a (subst (λ b. T (precedes (shape_of t) a b)) y p)
-                | inr y ↦ g.closed a x y p
-              ]));
-        }
-      where
-        step : length l < call_count t
-            → placed_of t
-            ≡ (l ++ (c ∷ []))
-            ++ sort (call_count t) (precedes (shape_of t)) (call_count t - suc (length l))
-            (add c (among l))
-        step room =
-            let n : call_count t - length l ≡ suc (call_count t - suc (length l)) = omega arith in
-            let one =
-            sort-step (call_count t) (precedes (shape_of t)) (call_count t - suc (length l)) (among l)
-            (rw (← e) h) in
-            g.whole
-            ∙ ap (λ r. l ++ r)
-            (ap (λ k. sort (call_count t) (precedes (shape_of t)) k (among l)) n ∙ one ∙ rw (← e))
-            ∙ sym (append_assoc l (c ∷ [])
-            (sort (call_count t) (precedes (shape_of t)) (call_count t - suc (length l))
-            (add c (among l))))
+      pub stage_on : length l < call_count t → Stage t (l ++ (c ∷ [])) low after' c
+      stage_on room =
+          let members = among-end l c in
+          let more : length (l ++ (c ∷ [])) ≡ suc (length l) =
+          length-append l (c ∷ []) ∙ omega arith in
+          record {
+            most = omega (arith, more, room);
+            whole = rw (members, more) (step room);
+            waiting = rw members waiting_on;
+            thread = λ x z. elim (add_cases c (among l) x (subst (λ q. T (q x)) members z)) [
+              | inl y ↦
+                  rw y
+                  (placed-low c (add-self c (among l)) ∙ here ∙ g.last-is
+                  ∙ sym (prior-end 255 l c new))
+              | inr y ↦
+                  placed-low x (add-more c (among l) x y)
+                  ∙ there x (λ u. clash (among l c) (subst (λ v. T (among l v)) u y) new)
+                  ∙ g.thread x y
+                  ∙ sym (prior-more 255 l c x y)
+            ];
+            last-is = sym (last_of-end 255 l c);
+            known = λ x z. elim (add_cases c (among l) x (subst (λ q. T (q x)) members z)) [
+              | inl y ↦ rw y h
+              | inr y ↦ g.known x y
+            ];
+            closed = λ a x z p. subst (λ q. T (q a)) (sym members)
+                (add-more c (among l) a
+                (elim (add_cases c (among l) x (subst (λ q. T (q x)) members z)) [
+                  | inl y ↦ after a (subst (λ b. T (precedes (shape_of t) a b)) y p)
+                  | inr y ↦ g.closed a x y p
+                ]));
+          }
+        where
+          step : length l < call_count t
+              → placed_of t
+              ≡ (l ++ (c ∷ []))
+              ++ sort (call_count t) (precedes (shape_of t)) (call_count t - suc (length l))
+              (add c (among l))
+          step room =
+              let n : call_count t - length l ≡ suc (call_count t - suc (length l)) = omega arith in
+              let one =
+              sort-step (call_count t) (precedes (shape_of t)) (call_count t - suc (length l))
+              (among l)
+              (rw (← e) h) in
+              g.whole
+              ∙ ap (λ r. l ++ r)
+              (ap (λ k. sort (call_count t) (precedes (shape_of t)) k (among l)) n ∙ one ∙ rw (← e))
+              ∙ sym (append_assoc l (c ∷ [])
+              (sort (call_count t) (precedes (shape_of t)) (call_count t - suc (length l))
+              (add c (among l))))

@@ -23,7 +23,8 @@ Within q size n notes from = (i : ℕ) → from ≤ i → i < n → T (q i) → 
 pub record Owned (t own : List ℕ) : Type 0 where
   pub long : length own ≡ 32
   pub gets : (y : ℕ) → y < outputs t → Block (get_or own (get_or (output_owners t) y 0) 0) (y / 24)
-  pub sets : (x : ℕ) → x < inputs t → Block (get_or own (get_or (input_owners t) x 0) 0) (4 + x / 24)
+  pub sets : (x : ℕ) → x < inputs t
+      → Block (get_or own (get_or (input_owners t) x 0) 0) (4 + x / 24)
 
 pub record Joined (t mask : List ℕ) : Type 0 where
   pub long : length mask ≡ 96

@@ -18,5 +18,6 @@ placed_of t = placed (call_count t) (precedes (shape_of t))
 unfoldable pub placing : List ℕ → ℕ → Outcome
 placing t room =
     cond (eqb (refusal t) 0)
-    (cond (leb (call_count t) room) (outcome 0 (length (placed_of t)) (placed_of t)) (outcome 8 0 []))
+    (cond (leb (call_count t) room) (outcome 0 (length (placed_of t)) (placed_of t))
+    (outcome 8 0 []))
     (outcome (refusal t) 0 [])

@@ -1,6 +1,18 @@
 -- The order threaded through the bytes of the placed calls: each names the call placed before it.
 use Rattle.std.specs.Prelude.{
-  ◌≡◌, not, cond, List, [], ◌∷◌, ◌++◌, ℕ, zero, suc, eqb, length, get_or,
+  ◌≡◌,
+  not,
+  cond,
+  List,
+  [],
+  ◌∷◌,
+  ◌++◌,
+  ℕ,
+  zero,
+  suc,
+  eqb,
+  length,
+  get_or,
 }
 use Rattle.table.specs.Shape.{Shape}
 use Rattle.table.specs.Packed.{shape_of}

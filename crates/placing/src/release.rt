@@ -72,7 +72,8 @@ fn release_get(
     requires joined { Joined table.now mask.now }
     requires waiting_len { length waiting.old ≡ 224 }
     requires words { Words ready.old }
-    requires by_index { (c : ℕ) → into (shape_of table.now) (only (get_no (shape_of table.now) output)) c
+    requires by_index { (c : ℕ) → into (shape_of table.now)
+        (only (get_no (shape_of table.now) output)) c
         ≤ get_or waiting.old c 0 }
     ensures { Lowered (into (shape_of table.now)
         (only (get_no (shape_of table.now) output)))
@@ -122,7 +123,8 @@ fn release_set(
     requires joined { Joined table.now mask.now }
     requires waiting_len { length waiting.old ≡ 224 }
     requires words { Words ready.old }
-    requires by_index { (c : ℕ) → into (shape_of table.now) (only (set_no (shape_of table.now) input)) c
+    requires by_index { (c : ℕ) → into (shape_of table.now)
+        (only (set_no (shape_of table.now) input)) c
         ≤ get_or waiting.old c 0 }
     ensures { Lowered (into (shape_of table.now)
         (only (set_no (shape_of table.now) input)))

@@ -103,7 +103,8 @@ module _ (t us ys xs : List ℕ) (i : Indexed t us ys xs) where
   input-row n h = rw i.input-places (declared-row (ascii "in") 96 t n (rw (← i.input-places) h))
 
   found : (k : ℕ) (c : Call) → Within (length us) (length ys) (length xs) c
-      → text_of t k (line_for us ys xs c) ≡ entry (the_unit_lines t) (output_lines t) (input_lines t) k c
+      → text_of t k (line_for us ys xs c)
+      ≡ entry (the_unit_lines t) (output_lines t) (input_lines t) k c
   unfolding text_of line_for entry
   found k (Step n) h = rw (unit_row n h)
   found k (Get n) h = rw (output_row n h)

@@ -16,7 +16,8 @@ use Rattle.printing.specs.Indexed.{entry_of, entries_of}
 module _ (t cs : List ℕ) (i : ℕ) where
   one_entry :
       i < length cs →
-      entries_of t i (drop i cs) ≡ entry_of t i (get_or cs i 0) ++ entries_of t (i + 1) (drop (i + 1) cs)
+      entries_of t i (drop i cs) ≡ entry_of t i (get_or cs i 0) ++ entries_of t (i + 1)
+      (drop (i + 1) cs)
   unfolding entries
   one_entry h = rw (drop-cons cs i 0, add-one)
 

@@ -78,7 +78,11 @@ module _ (t w cs : List ℕ) where
 
       module _ (f : leb (length (entries_of t 0 cs)) (length o - (length w + n + 2)) ≡ true) where
         fits : length w + n + 2 + length (entries_of t 0 cs) ≤ length o
-        fits = omega (arith, leb-true (length (entries_of t 0 cs)) (length o - (length w + n + 2)) f)
+        fits = omega (
+          arith,
+          leb-true (length (entries_of t 0 cs)) (length o - (length w + n + 2))
+              f,
+        )
 
         pub room_a : 0 + (length w + 1) ≤ length o
         room_a = omega (arith, fits)

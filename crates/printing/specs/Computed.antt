@@ -39,6 +39,7 @@ pub examples :
     × (told (outcome 9 6 calls) ≡ ascii "cycle\t6\n" ++ call_lines)
     × (told (outcome 8 0 []) ≡ ascii "refused\t8\t0\n")
     × (refusal_text 27 10 ≡ ascii "refused\t27\t10\n")
-unfolding same grown parted rows word lines_of call_in spell decimal printed entry entries calls_text
+unfolding same grown parted rows word lines_of call_in spell decimal printed entry entries
+    calls_text
     outcome_text refusal_text
 examples = (refl, refl, refl, refl)

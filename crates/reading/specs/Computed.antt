@@ -35,7 +35,8 @@ alike =
 pub tables :
     (numbered (rows example) ≡ 2 ∷ 2 ∷ 2 ∷ 0 ∷ 0 ∷ 1 ∷ 0 ∷ 1 ∷ 0 ∷ 1 ∷ 1 ∷ 0 ∷ [])
     × (numbered (rows alike) ≡ 2 ∷ 2 ∷ 2 ∷ 1 ∷ 0 ∷ 1 ∷ 1 ∷ 0 ∷ 0 ∷ 1 ∷ 0 ∷ 1 ∷ 1 ∷ 0 ∷ [])
-unfolding same grown parted rows word place lines_of kind_of pairs unit_number port_number join_place
+unfolding same grown parted rows word place lines_of kind_of pairs unit_number port_number
+    join_place
     join_of source_number feed_numbers numbered
 tables = (refl, refl)
 
@@ -66,7 +67,8 @@ unknown = below "unit\ta\nunits\tb\n"
 
 pub unknown-lined : Lined unknown (reading 644 unknown)
 unfolding allowed same grown parted rows word place times line_of first_bad blank unit_named known
-    add_unit refused refuse taken is_name faulty unit_line line stopped version lines_from line_by_line
+    add_unit refused refuse taken is_name faulty unit_line line stopped version lines_from
+    line_by_line
     reading line_count refusals
 unknown-lined = record {
   none = (

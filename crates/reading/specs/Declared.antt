@@ -1,6 +1,20 @@
 -- What the lines that are taken declare, in line order, with numbers from the draft they end at.
 use Rattle.std.specs.Prelude.{
-  ℕ, ◌<◌, ◌≡◌, refl, Bool, not, ◌&&◌, List, [], ◌∷◌, ◌++◌, map, length, T, eqb,
+  ℕ,
+  ◌<◌,
+  ◌≡◌,
+  refl,
+  Bool,
+  not,
+  ◌&&◌,
+  List,
+  [],
+  ◌∷◌,
+  ◌++◌,
+  map,
+  length,
+  T,
+  eqb,
 }
 use Rattle.std.proofs.Common.{ap, ◌∙◌, append-nil}
 use Rattle.std.proofs.Math.Path.{sym}
@@ -14,7 +28,13 @@ use Rattle.grammar.specs.Rows.{word, place}
 use Rattle.grammar.specs.Opening.{Row, lines_of}
 use Rattle.grammar.specs.Draft.{Draft, Output, Input, Feed, no_input, unit_named, output_named}
 use Rattle.grammar.specs.Draft.{
-  input_named, add_unit, add_output, add_input, add_feed, add_join, joined,
+  input_named,
+  add_unit,
+  add_output,
+  add_input,
+  add_feed,
+  add_join,
+  joined,
 }
 use Rattle.grammar.specs.Lines.{kind_of}
 use Rattle.reading.specs.Takes.{takes-unit, takes-output, takes-input}

@@ -1,11 +1,38 @@
 -- The source of each input: the output of the first line that joins the input.
 use Rattle.std.specs.Prelude.{
-  ℕ, zero, suc, ◌<◌, ◌≤◌, ◌≡◌, refl, Bool, true, false, not, cond, List, [], ◌∷◌, ◌++◌, map, length,
-  set, T, eqb,
+  ℕ,
+  zero,
+  suc,
+  ◌<◌,
+  ◌≤◌,
+  ◌≡◌,
+  refl,
+  Bool,
+  true,
+  false,
+  not,
+  cond,
+  List,
+  [],
+  ◌∷◌,
+  ◌++◌,
+  map,
+  length,
+  set,
+  T,
+  eqb,
 }
 use Rattle.std.proofs.Math.Path.{ap}
 use Rattle.std.proofs.Common.{
-  sym, ◌∙◌, arith, length-append, get_or-set_same, get_or-set_other, eqb-true, eq-eqb, ne_eqb,
+  sym,
+  ◌∙◌,
+  arith,
+  length-append,
+  get_or-set_same,
+  get_or-set_other,
+  eqb-true,
+  eq-eqb,
+  ne_eqb,
 }
 use Rattle.std.proofs.lemmas.List.{map-append, length-map}
 use Rattle.std.proofs.Math.Decide.{ℕ_discrete}
@@ -18,7 +45,13 @@ use Rattle.grammar.specs.Rows.{word}
 use Rattle.grammar.specs.Opening.{Row, lines_of}
 use Rattle.grammar.specs.Draft.{Draft, Input, unjoined, no_input, unit_named, output_named}
 use Rattle.grammar.specs.Draft.{
-  input_named, add_unit, add_output, add_input, add_feed, add_join, joined,
+  input_named,
+  add_unit,
+  add_output,
+  add_input,
+  add_feed,
+  add_join,
+  joined,
 }
 use Rattle.reading.specs.Takes.{takes-unit, takes-output, takes-input}
 use Rattle.reading.specs.Takes.{takes-feed, takes-join, Takes, Runs, ends, goes_on}
@@ -42,7 +75,8 @@ abbrev pub source_at : Draft → ℕ → ℕ
 source_at d x = get_or (map (λ (i : Input). i.source) d.inputs) x unjoined
 
 -- ---- lists
-more_default : {A : Type 0} (xs : List A) (a : A) (i : ℕ) → get_or (xs ++ (a ∷ [])) i a ≡ get_or xs i a
+more_default : {A : Type 0} (xs : List A) (a : A) (i : ℕ) → get_or (xs ++ (a ∷ [])) i a
+    ≡ get_or xs i a
 more_default [] a zero = refl
 more_default [] a (suc i) = refl
 more_default (x ∷ xs) a zero = refl
@@ -129,7 +163,8 @@ module _ (d : Draft) (a y : ℕ) where
       → join_output last f ≡ y → a < length d.inputs
       → (get_or d.inputs a no_input).source ≡ unjoined
       → y < unjoined
-      → (x : ℕ) → or_by (source_at (add_join d a y) x) last x fs ≡ or_by (source_at d x) last x (f ∷ fs)
+      → (x : ℕ) → or_by (source_at (add_join d a y) x) last x fs
+      ≡ or_by (source_at d x) last x (f ∷ fs)
   or_join last f fs w p q h e l x = elim (ℕ_discrete x a) [
     | yes z ↦ rw z (ap (λ s. or_by s last a fs) (source-joined h)
         ∙ or_joins last a y f fs w p q (λ z. omega arith)

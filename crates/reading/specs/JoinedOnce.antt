@@ -52,7 +52,8 @@ not-again {d} (goes_on {last = last} {k = k} {f = f} {fs = fs} t r) x n = step t
 -- no two of the lines join one input
 unfoldable pub Apart : Draft → List Row → Type 0
 Apart d js =
-    (i j : ℕ) → i < j → j < length js → join_input d (get_or js i []) ≡ join_input d (get_or js j []) → ⊥
+    (i j : ℕ) → i < j → j < length js → join_input d (get_or js i [])
+    ≡ join_input d (get_or js j []) → ⊥
 
 apart-first : (d : Draft) → Apart d (lines_of [] (ascii "join"))
 unfolding Apart lines_of

@@ -1,6 +1,20 @@
 -- A text that is refused: its refusal names the line that is said.
 use Rattle.std.specs.Prelude.{
-  ℕ, suc, ◌+◌, ◌-◌, ◌≤◌, ◌≡◌, ◌⊎◌, ◌↔◌, not, List, ◌∷◌, length, get_or, drop, eqb,
+  ℕ,
+  suc,
+  ◌+◌,
+  ◌-◌,
+  ◌≤◌,
+  ◌≡◌,
+  ◌⊎◌,
+  ◌↔◌,
+  not,
+  List,
+  ◌∷◌,
+  length,
+  get_or,
+  drop,
+  eqb,
 }
 use Rattle.std.proofs.Math.Path.{refl}
 use Rattle.std.proofs.Common.{ap, sym, ◌∙◌, subst}

@@ -1,6 +1,19 @@
 -- The line of the first input that no line joins.
 use Rattle.std.specs.Prelude.{
-  ℕ, suc, ◌+◌, ◌<◌, ◌≡◌, refl, Bool, true, false, not, cond, ◌&&◌, T, leb,
+  ℕ,
+  suc,
+  ◌+◌,
+  ◌<◌,
+  ◌≡◌,
+  refl,
+  Bool,
+  true,
+  false,
+  not,
+  cond,
+  ◌&&◌,
+  T,
+  leb,
 }
 use Rattle.std.proofs.Math.Path.{ap, sym}
 use Rattle.std.proofs.Common.{◌∙◌, leb→le, le→leb, ne_eqb}

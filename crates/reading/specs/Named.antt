@@ -56,7 +56,8 @@ module _ (d : Draft) (fs : List Row) (r : Runs blank 2 fs d) (g : Proper d) wher
   pub unit-named : (w : List ℕ) → unit_named d w ≡ unit_number fs w
   unfolding unit_named unit_number
   unit-named w =
-      ap (place (λ n. same n w)) units-are ∙ place_map (λ n. same n w) (λ f. word f 1) the_unit_lines
+      ap (place (λ n. same n w)) units-are
+      ∙ place_map (λ n. same n w) (λ f. word f 1) the_unit_lines
 
   -- the name at the number of a unit that is known
   name_of : (w : List ℕ) → unit_named d w < length d.units
@@ -130,7 +131,8 @@ module _ (d : Draft) (fs : List Row) (r : Runs blank 2 fs d) (g : Proper d) wher
   feed-named f = rw (input-named (word f 1) (word f 2), output-named (word f 1) (word f 3))
 
   -- ---- each line has its own place as its number
-  pub unit-at : (u : ℕ) → u < length the_unit_lines → unit_number fs (word (get_or the_unit_lines u []) 1) ≡ u
+  pub unit-at : (u : ℕ) → u < length the_unit_lines
+      → unit_number fs (word (get_or the_unit_lines u []) 1) ≡ u
   unfolding blank unit_named
   unit-at u h =
       let l : u < length d.units = rw (units-are, length-map the_unit_lines (λ f. word f 1)) h in

@@ -1,6 +1,23 @@
 -- What reading a text comes to, case by case.
 use Rattle.std.specs.Prelude.{
-  ℕ, zero, suc, ◌+◌, ◌-◌, ◌<◌, ◌≤◌, ◌≡◌, refl, List, [], ◌∷◌, length, get_or, drop, T, eqb, ltb,
+  ℕ,
+  zero,
+  suc,
+  ◌+◌,
+  ◌-◌,
+  ◌<◌,
+  ◌≤◌,
+  ◌≡◌,
+  refl,
+  List,
+  [],
+  ◌∷◌,
+  length,
+  get_or,
+  drop,
+  T,
+  eqb,
+  ltb,
 }
 use mathlib.Core.Bool.{Bool, true, false, not, cond, ◌&&◌, ◌||◌}
 use Rattle.std.proofs.Common.{arith, eqb-true, ltb-true, ltb-false}

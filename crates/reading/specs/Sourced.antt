@@ -1,6 +1,19 @@
 -- The source of each input stands in the line that joins it; an input that no line joins has none.
 use Rattle.std.specs.Prelude.{
-  ℕ, suc, ◌<◌, ◌≤◌, ◌≡◌, refl, Bool, true, false, cond, ◌&&◌, length, T, eqb,
+  ℕ,
+  suc,
+  ◌<◌,
+  ◌≤◌,
+  ◌≡◌,
+  refl,
+  Bool,
+  true,
+  false,
+  cond,
+  ◌&&◌,
+  length,
+  T,
+  eqb,
 }
 use Rattle.std.proofs.Math.Path.{ap}
 use Rattle.std.proofs.Common.{sym, ◌∙◌, subst, arith, ext_get_or, eqb→eq}
@@ -45,7 +58,8 @@ first-join d x (f ∷ fs) n = go (eqb (join_input d f) x) (first-join d x fs) n
         → source_by d x fs ≡ join_output d (get_or fs (place (λ f. eqb (join_input d f) x) fs) []))
         → (cond b (join_output d f) (source_by d x fs) ≡ unjoined → ⊥)
         → cond b (join_output d f) (source_by d x fs)
-        ≡ join_output d (get_or (f ∷ fs) (cond b 0 (suc (place (λ f. eqb (join_input d f) x) fs))) [])
+        ≡ join_output d (get_or (f ∷ fs) (cond b 0 (suc (place (λ f. eqb (join_input d f) x) fs)))
+        [])
     go true ih n = refl
     go false ih n = ih n
 

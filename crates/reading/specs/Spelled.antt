@@ -1,6 +1,19 @@
 -- Names have at most 16 bytes: fields 1 and 2 of every line that is taken.
 use Rattle.std.specs.Prelude.{
-  ℕ, zero, suc, ◌<◌, ◌≤◌, ◌≡◌, refl, Bool, not, cond, get_or, eqb, ltb, leb,
+  ℕ,
+  zero,
+  suc,
+  ◌<◌,
+  ◌≤◌,
+  ◌≡◌,
+  refl,
+  Bool,
+  not,
+  cond,
+  get_or,
+  eqb,
+  ltb,
+  leb,
 }
 use Rattle.std.proofs.Math.Bool.{true, false}
 use mathlib.Core.List.{List, [], ◌∷◌}

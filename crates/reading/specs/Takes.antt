@@ -64,7 +64,8 @@ module _ (d : Draft) (k : ℕ) (f : Row) where
       passed _ 29 _ (omega arith) λ a z.
       takes-unit w (ltb-false _ _ n)
 
-  output-taken : word f 0 ≡ ascii "out" → (out_line d f).number ≡ 0 → Takes d k f (out_line d f).draft
+  output-taken : word f 0 ≡ ascii "out" → (out_line d f).number ≡ 0
+      → Takes d k f (out_line d f).draft
   unfolding out_line taken known
   output-taken w =
       passed _ 24 _ (omega arith) λ a.
@@ -74,7 +75,8 @@ module _ (d : Draft) (k : ℕ) (f : Row) where
       passed _ 29 _ (omega arith) λ a z.
       takes-output w (ltb-true _ _ (not-false _ u)) (ltb-false _ _ n)
 
-  input-taken : word f 0 ≡ ascii "in" → (in_line d k f).number ≡ 0 → Takes d k f (in_line d k f).draft
+  input-taken : word f 0 ≡ ascii "in" → (in_line d k f).number ≡ 0
+      → Takes d k f (in_line d k f).draft
   unfolding in_line taken known
   input-taken w =
       passed _ 24 _ (omega arith) λ a.

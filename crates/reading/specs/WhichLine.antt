@@ -1,6 +1,23 @@
 -- Which line a refusal names: SPECIFICATION, Text 10 to 13.
 use Rattle.std.specs.Prelude.{
-  ℕ, suc, ◌+◌, ◌-◌, ◌≤◌, ◌≡◌, ◌⊎◌, ◌↔◌, not, cond, ◌||◌, List, [], ◌∷◌, length, get_or, drop, eqb,
+  ℕ,
+  suc,
+  ◌+◌,
+  ◌-◌,
+  ◌≤◌,
+  ◌≡◌,
+  ◌⊎◌,
+  ◌↔◌,
+  not,
+  cond,
+  ◌||◌,
+  List,
+  [],
+  ◌∷◌,
+  length,
+  get_or,
+  drop,
+  eqb,
 }
 use Rattle.grammar.specs.Words.{lf}
 use Rattle.grammar.specs.Rows.{rows, place, times, line_of, first_bad}

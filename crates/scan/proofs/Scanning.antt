@@ -14,7 +14,8 @@ use Rattle.grammar.specs.Words.{lf, allowed}
 use Rattle.grammar.specs.Rows.{times, first_bad}
 use Rattle.grammar.specs.Places.{place-least}
 
-pub bad_least : (t : List ℕ) → first_bad t ≡ least_from (λ i. not (allowed (get_or t i 0))) (length t) 0
+pub bad_least : (t : List ℕ) → first_bad t
+    ≡ least_from (λ i. not (allowed (get_or t i 0))) (length t) 0
 unfolding first_bad
 bad_least t =
     place-least (λ b. not (allowed b)) 0 t (λ i. not (allowed (get_or t i 0))) (length t) refl

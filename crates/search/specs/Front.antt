@@ -1,7 +1,16 @@
 -- Bytes written at the front of a lent buffer, the rest kept, and the loop that writes them.
 use Rattle.std.specs.Prelude.{◌≡◌, refl, List, [], ◌∷◌, ◌++◌, ℕ, ◌+◌, ◌≤◌, ◌<◌}
 use Rattle.std.proofs.Common.{
-  sym, ap, ◌∙◌, append_assoc, append-nil, add-one, arith, take-suc-set, drop-set-lt, drop-drop,
+  sym,
+  ap,
+  ◌∙◌,
+  append_assoc,
+  append-nil,
+  add-one,
+  arith,
+  take-suc-set,
+  drop-set-lt,
+  drop-drop,
   length-take-le,
 }
 use lib.ListN.{length, take, drop, set, take-append-drop}

@@ -1,6 +1,20 @@
 -- Laws of Boolean tests: a test `b` holds where there is a `T b`.
 use Rattle.std.specs.Prelude.{
-  ◌≡◌, refl, ◌⊎◌, Bool, true, false, not, ◌&&◌, ◌||◌, ℕ, ◌≤◌, ◌<◌, T, eqb, ltb,
+  ◌≡◌,
+  refl,
+  ◌⊎◌,
+  Bool,
+  true,
+  false,
+  not,
+  ◌&&◌,
+  ◌||◌,
+  ℕ,
+  ◌≤◌,
+  ◌<◌,
+  T,
+  eqb,
+  ltb,
 }
 use Rattle.std.proofs.Common.{sym, ◌∙◌, inl, inr, arith, eqb→eq, ltb→lt, lt→ltb}
 use Rattle.std.proofs.Math.Dec.{eqb_refl, not_T}

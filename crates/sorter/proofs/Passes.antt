@@ -98,7 +98,8 @@ module _ (t : List ℕ) (ok : Sound t) (done : ℕ → Bool) where
   }
 
   module _ (lows : List ℕ) (x : ℕ) (some : 0 < x) (g : Steps t done lows x) where
-    passed : ((u : ℕ) → T (not (keeps_step (shape_of t) u done (x - 1)))) → Steps t done lows (x - 1)
+    passed : ((u : ℕ) → T (not (keeps_step (shape_of t) u done (x - 1))))
+        → Steps t done lows (x - 1)
     passed n = record {
       long = g.long;
       within = omega (arith, g.within);
@@ -151,7 +152,8 @@ module _ (t : List ℕ) (ok : Sound t) (done : ℕ → Bool) where
             (not_T (keeps_step (shape_of t) u done (x - 1))
             (λ q.
             p (sym (kind-found (shape_of t) 1 (x - 1) u
-            (T_and (has_kind (shape_of t) 1 (x - 1) u) (not (done (set_no (shape_of t) (x - 1)))) q).0
+            (T_and (has_kind (shape_of t) 1 (x - 1) u) (not (done (set_no (shape_of t) (x - 1))))
+            q).0
             ).1
             ∙ sym e)))
             (g.each u h))
@@ -197,7 +199,8 @@ module _ (t : List ℕ) (ok : Sound t) (done : ℕ → Bool) where
           (g.each y l);
     }
 
-    pub gets-done : T (done (set_no (shape_of t) ((shape_of t).feed_input k))) → Gets t done lows (k + 1)
+    pub gets-done : T (done (set_no (shape_of t) ((shape_of t).feed_input k)))
+        → Gets t done lows (k + 1)
     gets-done d = record {
       long = g.long;
       within = omega arith;

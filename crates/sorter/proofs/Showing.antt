@@ -22,7 +22,8 @@ use Rattle.sorter.specs.Trail.{Walked}
 use Rattle.sorter.specs.Ordering.{shown_of}
 
 -- the first place of a call in a list that has it
-pub place_in : (l : List ℕ) (c : ℕ) → T (among l c) → least_from (is_key l c) (length l) 0 < length l
+pub place_in : (l : List ℕ) (c : ℕ) → T (among l c)
+    → least_from (is_key l c) (length l) 0 < length l
 place_in l c t = elim (dec_lt (least_from (is_key l c) (length l) 0) (length l)) [
   | yes p ↦ p
   | no p ↦

@@ -1,6 +1,19 @@
 -- What is answered, case by case.
 use Rattle.std.specs.Prelude.{
-  ◌≡◌, refl, Bool, true, false, cond, List, [], ℕ, ◌≤◌, ◌<◌, eqb, leb, length,
+  ◌≡◌,
+  refl,
+  Bool,
+  true,
+  false,
+  cond,
+  List,
+  [],
+  ℕ,
+  ◌≤◌,
+  ◌<◌,
+  eqb,
+  leb,
+  length,
 }
 use Rattle.std.proofs.Common.{sym}
 use borrow.Author.Tests.{le-leb, lt-leb, eqb-true}
@@ -46,12 +59,14 @@ pub ordering-long : (t : List ℕ) (room : ℕ)
     → (ordering t room).answer.place ≡ length (ordering t room).bytes
 unfolding ordering settled
 ordering-long t room =
-    go (eqb (refusal t) 0) (leb (call_count t) room) (eqb (length (placed_of t)) (call_count t)) refl
+    go (eqb (refusal t) 0) (leb (call_count t) room) (eqb (length (placed_of t)) (call_count t))
+    refl
   where
     go : (a b c : Bool) → eqb (length (placed_of t)) (call_count t) ≡ c → Long
         (cond a
         (cond b
-        (cond c (outcome 0 (call_count t) (placed_of t)) (outcome 9 (length (shown_of t)) (shown_of t)))
+        (cond c (outcome 0 (call_count t) (placed_of t))
+        (outcome 9 (length (shown_of t)) (shown_of t)))
         (outcome 8 0 []))
         (outcome (refusal t) 0 []))
     go false b c e = refl

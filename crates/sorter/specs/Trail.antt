@@ -12,4 +12,5 @@ pub record Walked (t path : List ℕ) (at call : ℕ) : Type 0 where
   pub few : 224 ≤ call_count t + at
   pub calls : (i : ℕ) → i < length (drop at path) → get_or (drop at path) i 0 < call_count t
   pub again : T (among (drop at path) call)
-  pub is : met (call_count t) (precedes (shape_of t)) (among (placed_of t)) ≡ upto call (drop at path)
+  pub is : met (call_count t) (precedes (shape_of t)) (among (placed_of t))
+      ≡ upto call (drop at path)

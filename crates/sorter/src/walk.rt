@@ -93,7 +93,8 @@ pub fn walk_back(
 ) -> Met
     requires sound { Sound table.now }
     requires table_len_bound { length (placed_of table.now) < call_count table.now }
-    requires first_value { first ≡ lowest_left (call_count table.now) (precedes (shape_of table.now))
+    requires first_value { first ≡ lowest_left (call_count table.now)
+        (precedes (shape_of table.now))
         (among (placed_of table.now)) }
     requires low_steps { LowSteps table.now (among (placed_of table.now)) steps.now }
     requires low_gets { LowGets table.now (among (placed_of table.now)) gets.now }

@@ -51,7 +51,8 @@ module _ (bytes : List ℕ) (bound : ℕ) where
       → false ≡ all_below bound bytes
   unfolding all_below
   below-stop i r h e g =
-      every_no (λ k. ltb (get_or bytes k 0) bound) (length bytes) i h (rw (← e, le-ltb r bound g) tt)
+      every_no (λ k. ltb (get_or bytes k 0) bound) (length bytes) i h
+      (rw (← e, le-ltb r bound g) tt)
 
   pub below_end : (i : ℕ) → length bytes ≤ i → Below i → true ≡ all_below bound bytes
   unfolding all_below
@@ -64,7 +65,8 @@ module _ (ps : List ℕ) (j input output : ℕ) where
   unfolding is_pair
   pair_other n = rw (ne_eqb (pair_input ps j) input n)
 
-  pub pair_half : pair_input ps j ≡ input → eqb (pair_output ps j) output ≡ is_pair ps j input output
+  pub pair_half : pair_input ps j ≡ input → eqb (pair_output ps j) output
+      ≡ is_pair ps j input output
   unfolding is_pair
   pair_half e = rw (eq-eqb (pair_input ps j) input e)
 
@@ -109,7 +111,8 @@ module _ (outs ins ps : List ℕ) (f k : ℕ) where
   unfolding feeds_from
   feeds-end h = let e : f - k ≡ 0 = omega arith in rw e
 
-  pub feeds-unknown : k < f → feed_known outs ins ps k ≡ false → feeds_from outs ins ps (f - k) k ≡ 6
+  pub feeds-unknown : k < f → feed_known outs ins ps k ≡ false → feeds_from outs ins ps (f - k) k
+      ≡ 6
   unfolding feeds_from refuse
   feeds-unknown h a = rw (left h, a)
 

@@ -2,10 +2,27 @@
 use Rattle.std.specs.Prelude.{◌≡◌, refl, [], ◌∷◌}
 use Rattle.search.specs.Every.{every, some}
 use Rattle.table.specs.Packed.{
-  units, outputs, inputs, feeds, output_owners, input_owners, kinds, sources, pairs, asked,
+  units,
+  outputs,
+  inputs,
+  feeds,
+  output_owners,
+  input_owners,
+  kinds,
+  sources,
+  pairs,
+  asked,
 }
 use Rattle.table.specs.Check.{
-  refuse, counts_in, all_below, is_pair, feed_known, feed_again, feeds_from, wiring, refusal,
+  refuse,
+  counts_in,
+  all_below,
+  is_pair,
+  feed_known,
+  feed_again,
+  feeds_from,
+  wiring,
+  refusal,
   checked,
 }
 use Rattle.table.specs.Tables.{A, C_with}

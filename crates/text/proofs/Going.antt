@@ -87,7 +87,8 @@ pub record Going (t : List ℕ) (a : ℕ) (p s : List ℕ) (c : Counts) (at k : 
 abbrev pub none_yet : Counts
 none_yet = record { units = 0; outputs = 0; inputs = 0; feeds = 0 }
 
-pub none-fits : (t p s : List ℕ) → length p ≡ places_size → length s ≡ slots_size → Fit t p s none_yet
+pub none-fits : (t p s : List ℕ) → length p ≡ places_size → length s ≡ slots_size
+    → Fit t p s none_yet
 none-fits t p s h g = record {
   places-long = h;
   slots-long = g;

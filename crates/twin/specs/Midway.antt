@@ -1,6 +1,21 @@
 -- What carries demand 3: between two calls the calls done hold new values and the others old ones.
 use Rattle.std.specs.Prelude.{
-  ◌≡◌, refl, ◌≢◌, Bool, not, cond, List, ◌∷◌, ℕ, zero, suc, ◌+◌, ◌≤◌, ◌<◌, T, eqb,
+  ◌≡◌,
+  refl,
+  ◌≢◌,
+  Bool,
+  not,
+  cond,
+  List,
+  ◌∷◌,
+  ℕ,
+  zero,
+  suc,
+  ◌+◌,
+  ◌≤◌,
+  ◌<◌,
+  T,
+  eqb,
 }
 use Rattle.std.proofs.Math.Path.{sym, ap}
 use Rattle.std.proofs.Common.{ap₂, ◌∙◌, arith, eqb→eq}
@@ -99,7 +114,8 @@ module _ {State Value : Type 0} (s : Shape) (m : Rules State Value) where
   pub record Midway (done : ℕ → Bool) (old new : Values State Value)
       (w : World State Value) : Type 0 where
     pub moved : (a : ℕ) → a < total s → T (done a) → (w (call_of s a)).value ≡ new (call_of s a)
-    pub waits : (a : ℕ) → a < total s → T (not (done a)) → (w (call_of s a)).value ≡ old (call_of s a)
+    pub waits : (a : ℕ) → a < total s → T (not (done a)) → (w (call_of s a)).value
+        ≡ old (call_of s a)
 
   -- the equation of one call
   abbrev pub Holds : Values State Value → Values State Value → (k : Call) → At State Value k

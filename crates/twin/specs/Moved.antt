@@ -63,7 +63,8 @@ pub front-moved : {State Value : Type 0} (t : List ℕ) (m : Rules State Value) 
     → Passed t order
     → (w : World State Value) (k : ℕ) → k ≤ length order → (a : ℕ) → a < total (shape_of t)
     → (i : ℕ) × (i < length order) × (get_or order i 0 ≡ a)
-    × (k ≤ i → run (shape_of t) m w (take k order) (call_of (shape_of t) a) ≡ w (call_of (shape_of t) a))
+    × (k ≤ i → run (shape_of t) m w (take k order) (call_of (shape_of t) a)
+    ≡ w (call_of (shape_of t) a))
     × (i < k
     → (run (shape_of t) m w (take k order) (call_of (shape_of t) a)).time
     ≡ suc (w (call_of (shape_of t) a)).time)

@@ -13,8 +13,11 @@ slice_bounds-same-start c = omega (arith, (first_part c.requires.0 c.requires.1)
 
 pub slice_bounds-same-end : goal.slice_bounds-same-end
 slice_bounds-same-end c =
-    omega (arith, (first_part c.requires.0 c.requires.1).order,
-    (first_part c.requires.0 c.requires.1).within)
+    omega (
+      arith,
+      (first_part c.requires.0 c.requires.1).order,
+      (first_part c.requires.0 c.requires.1).within,
+    )
 
 pub returns : goal.returns
 unfolding stretch

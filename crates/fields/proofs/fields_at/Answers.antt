@@ -19,19 +19,22 @@ returns-then-text-e c =
     c.if-text-e.true
 
 pub with-more-requires : goal.with-more-requires
-with-more-requires c =
-    (
-      omega (
-        arith,
-        c.loop-fields.invariant.few,
-        lexing_low c.loop-fields.invariant _ c.word_end-e.ensures,
-        c.if-text-e.false,
-        c.loop-fields.invariant.small,
-      ),
-      omega (arith, lexing_low c.loop-fields.invariant _ c.word_end-e.ensures, c.if-text-e.false,
-      c.loop-fields.invariant.small),
-      omega (arith, c.if-text-e.false, c.loop-fields.invariant.small),
-    )
+with-more-requires c = (
+  omega (
+    arith,
+    c.loop-fields.invariant.few,
+    lexing_low c.loop-fields.invariant _ c.word_end-e.ensures,
+    c.if-text-e.false,
+    c.loop-fields.invariant.small,
+  ),
+  omega (
+    arith,
+    lexing_low c.loop-fields.invariant _ c.word_end-e.ensures,
+    c.if-text-e.false,
+    c.loop-fields.invariant.small,
+  ),
+  omega (arith, c.if-text-e.false, c.loop-fields.invariant.small),
+)
 
 pub bounds-text-e : goal.bounds-text-e
 bounds-text-e c = c.if-text-e.false

@@ -13,9 +13,12 @@ returns-then-a-i c =
     sym (c.loop-i.invariant.2 ∙ same_stop _ _ _ c.loop-i-test.true (search rules) c.if-a-i.true)
 
 pub loop-i-preserved : goal.loop-i-preserved
-loop-i-preserved c =
-    (search rules, c.loop-i.invariant.1, c.loop-i.invariant.2 ∙ same-on _ _ _ c.loop-i-test.true
-    (search rules) c.if-a-i.false)
+loop-i-preserved c = (
+  search rules,
+  c.loop-i.invariant.1,
+  c.loop-i.invariant.2 ∙ same-on _ _ _ c.loop-i-test.true
+      (search rules) c.if-a-i.false,
+)
 
 pub returns : goal.returns
 returns c =

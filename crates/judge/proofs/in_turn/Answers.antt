@@ -27,16 +27,15 @@ bounds-done-call c =
     taken-small _ c.requires _ _ _ c.refusal_at-number.ensures c.if-number-ne0.false
 
 pub loop-place-preserved : goal.loop-place-preserved
-loop-place-preserved c =
-    (
-      search rules,
-      simp length-set c.loop-place.invariant.1,
-      c.loop-place.invariant.2
-          ∙ turn_on _ _ _ _ _ c.loop-place-test.true c.refusal_at-number.ensures
-          c.if-number-ne0.false
-          (taken-small _ c.requires _ _ _ c.refusal_at-number.ensures c.if-number-ne0.false)
-          c.loop-place.invariant.1,
-    )
+loop-place-preserved c = (
+  search rules,
+  simp length-set c.loop-place.invariant.1,
+  c.loop-place.invariant.2
+      ∙ turn_on _ _ _ _ _ c.loop-place-test.true c.refusal_at-number.ensures
+      c.if-number-ne0.false
+      (taken-small _ c.requires _ _ _ c.refusal_at-number.ensures c.if-number-ne0.false)
+      c.loop-place.invariant.1,
+)
 
 pub returns : goal.returns
 returns c =

@@ -15,8 +15,12 @@ returns-then-same-2 c =
 pub returns-then-same-3 : goal.returns-then-same-3
 unfolding keyword_of
 returns-then-same-3 c =
-    rw (sym c.same.ensures ∙ c.if-same.false, sym c.same-2.ensures ∙ c.if-same-2.false, sym
-    c.same-3.ensures ∙ c.if-same-3.true)
+    rw (
+      sym c.same.ensures ∙ c.if-same.false,
+      sym c.same-2.ensures ∙ c.if-same-2.false,
+      sym
+          c.same-3.ensures ∙ c.if-same-3.true,
+    )
 
 pub returns-then-same-4 : goal.returns-then-same-4
 unfolding keyword_of

@@ -21,8 +21,11 @@ bounds-slots-base c =
 
 pub overflow_cast-result : goal.overflow_cast-result
 overflow_cast-result c =
-    omega (arith, c.requires.ranked.number _ (c.seek-spot.ensures.taken c.if-spot.true).0,
-    c.requires.ranked.low)
+    omega (
+      arith,
+      c.requires.ranked.number _ (c.seek-spot.ensures.taken c.if-spot.true).0,
+      c.requires.ranked.low,
+    )
 
 pub returns-then-spot : goal.returns-then-spot
 returns-then-spot c =

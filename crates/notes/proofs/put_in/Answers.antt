@@ -15,8 +15,13 @@ bounds-slots-i c = omega (arith, c.loop-i.invariant.high, c.requires.a_le_e.1)
 
 pub bounds-slots-i-in-loop-i : goal.bounds-slots-i-in-loop-i
 bounds-slots-i-in-loop-i c =
-    omega (arith, c.loop-i.invariant.high, c.loop-i.invariant.long, c.requires.a_le_e.1,
-    c.requires.slots_len)
+    omega (
+      arith,
+      c.loop-i.invariant.high,
+      c.loop-i.invariant.long,
+      c.requires.a_le_e.1,
+      c.requires.slots_len,
+    )
 
 pub overflow_sub-i : goal.overflow_sub-i
 overflow_sub-i c = omega arith
@@ -26,16 +31,28 @@ loop-i-smaller c = omega arith
 
 pub loop-i-preserved : goal.loop-i-preserved
 loop-i-preserved c =
-    one-moved _ _ _ _ _ c.loop-i.invariant (omega (arith, c.requires.a_le_e.1,
-    c.requires.slots_len)) c.loop-i-test.true
+    one-moved _ _ _ _ _ c.loop-i.invariant (omega (
+      arith,
+      c.requires.a_le_e.1,
+      c.requires.slots_len,
+    )) c.loop-i-test.true
 
 pub bounds-slots-a : goal.bounds-slots-a
 bounds-slots-a c =
-    omega (arith, c.loop-i.invariant.low, c.loop-i.invariant.high, c.loop-i.invariant.long,
-    c.requires.a_le_e.1, c.requires.slots_len)
+    omega (
+      arith,
+      c.loop-i.invariant.low,
+      c.loop-i.invariant.high,
+      c.loop-i.invariant.long,
+      c.requires.a_le_e.1,
+      c.requires.slots_len,
+    )
 
 pub returns : goal.returns
 returns c =
     put_in_is _ _ _ _ c.requires.a_le_e.0 _
-    (all_moved _ _ _ _ _ c.loop-i.invariant (omega (arith, c.requires.a_le_e.1,
-    c.requires.slots_len)) (omega arith) _)
+    (all_moved _ _ _ _ _ c.loop-i.invariant (omega (
+      arith,
+      c.requires.a_le_e.1,
+      c.requires.slots_len,
+    )) (omega arith) _)

@@ -31,8 +31,12 @@ slice_bounds-put-start c = omega (arith, c.loop-m.invariant.within)
 
 pub slice_bounds-put-end : goal.slice_bounds-put-end
 slice_bounds-put-end c =
-    omega (arith, c.loop-m.invariant.room, length-set c.loop-m.digits c.loop-m.i
-    (48 + c.loop-m.m))
+    omega (
+      arith,
+      c.loop-m.invariant.room,
+      length-set c.loop-m.digits c.loop-m.i
+          (48 + c.loop-m.m),
+    )
 
 pub shape_of-out : goal.shape_of-out
 shape_of-out c = put-long c.put.ensures

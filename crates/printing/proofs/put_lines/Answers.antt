@@ -45,7 +45,7 @@ put_entries-end-requires c =
     record {
       indexed = c.requires;
       calls_in_bounds = room_c c.args.text.now c.args.heading.now c.args.calls.now c.args.out.now
-      _ c.digit_count.ensures
+          _ c.digit_count.ensures
           c.if-out-front.false (sym c.entries_fit.ensures ∙ not-false _
           c.if-not-entries_fit.false-raw) c.put_field-a.ensures
           c.put_count-b.ensures;

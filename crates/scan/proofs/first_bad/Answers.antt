@@ -28,12 +28,11 @@ pub loop-i-smaller : goal.loop-i-smaller
 loop-i-smaller c = omega arith
 
 pub loop-i-preserved : goal.loop-i-preserved
-loop-i-preserved c =
-    (
-      omega arith,
-      below_more _ _ c.loop-i.invariant.1 (rw (sym c.is_allowed.ensures ∙ not-false _
+loop-i-preserved c = (
+  omega arith,
+  below_more _ _ c.loop-i.invariant.1 (rw (sym c.is_allowed.ensures ∙ not-false _
       c.if-not-is_allowed.false-raw) tt),
-    )
+)
 
 pub returns : goal.returns
 returns c =

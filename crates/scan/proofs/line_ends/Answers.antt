@@ -26,18 +26,24 @@ loop-i-smaller c = omega arith
 pub loop-i-preserved : goal.loop-i-preserved
 loop-i-preserved c =
     elim c.if-text-i-eq10.branch [
-      | then-text-i-eq10 w ↦
-          (
-      omega arith,
-      (omega (arith, w.count-is), w.count-is ∙ counts _ _ _ c.loop-i-test.true c.loop-i.invariant.1.1
-      w.if-text-i-eq10.true),
-    )
-      | else-text-i-eq10 w ↦
-          (
-      omega arith,
-      (omega (arith, w.count-is), w.count-is ∙ passes _ _ _ c.loop-i-test.true c.loop-i.invariant.1.1
-      w.if-text-i-eq10.false),
-    )
+      | then-text-i-eq10 w ↦ (
+        omega arith,
+        (
+          omega (arith, w.count-is),
+          w.count-is
+              ∙ counts _ _ _ c.loop-i-test.true c.loop-i.invariant.1.1
+              w.if-text-i-eq10.true,
+        ),
+      )
+      | else-text-i-eq10 w ↦ (
+        omega arith,
+        (
+          omega (arith, w.count-is),
+          w.count-is
+              ∙ passes _ _ _ c.loop-i-test.true c.loop-i.invariant.1.1
+              w.if-text-i-eq10.false,
+        ),
+      )
     ]
 
 pub returns : goal.returns

@@ -10,12 +10,13 @@ returns-then-number-ne0 c =
     record { value = all.0; out_after = all.1 }
 
 pub size-size-requires : goal.size-size-requires
-size-size-requires c =
-    (
-      (c.note-noted.ensures.fit c.if-number-ne0.false).outputs-most,
-      ((c.note-noted.ensures.fit c.if-number-ne0.false).inputs-most,
-      (c.note-noted.ensures.fit c.if-number-ne0.false).feeds-most),
-    )
+size-size-requires c = (
+  (c.note-noted.ensures.fit c.if-number-ne0.false).outputs-most,
+  (
+    (c.note-noted.ensures.fit c.if-number-ne0.false).inputs-most,
+    (c.note-noted.ensures.fit c.if-number-ne0.false).feeds-most,
+  ),
+)
 
 pub returns-then-out-size : goal.returns-then-out-size
 returns-then-out-size c =
@@ -32,7 +33,7 @@ pack-requires c =
     record {
       slotted = fit_slotted _ _ _ _ (c.note-noted.ensures.fit c.if-number-ne0.false);
       counts_in_bounds = read-room _ _ _ _ c.note-noted.ensures c.args.out.now
-      c.if-number-ne0.false _ c.size-size.ensures c.if-out-size.false;
+          c.if-number-ne0.false _ c.size-size.ensures c.if-out-size.false;
     }
 
 pub returns : goal.returns

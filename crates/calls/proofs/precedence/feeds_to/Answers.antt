@@ -16,13 +16,12 @@ returns-then-is_feed c =
     (says (feed-of _ _ _ _ c.is_feed.ensures c.feed_pairs-pairs.ensures) c.if-is_feed.true)
 
 pub loop-k-preserved : goal.loop-k-preserved
-loop-k-preserved c =
-    (
-      search rules,
-      below_more _ _ c.loop-k.invariant.1
-          (denies (feed-of _ _ _ _ c.is_feed.ensures c.feed_pairs-pairs.ensures)
-          c.if-is_feed.false),
-    )
+loop-k-preserved c = (
+  search rules,
+  below_more _ _ c.loop-k.invariant.1
+      (denies (feed-of _ _ _ _ c.is_feed.ensures c.feed_pairs-pairs.ensures)
+      c.if-is_feed.false),
+)
 
 pub returns : goal.returns
 returns c =

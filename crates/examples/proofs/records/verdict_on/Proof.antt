@@ -29,7 +29,13 @@ use denote.Builtin.{u8, ArrayOf}
 use denote.Lend.{lends_shr_slice}
 use denote.Ref.{Bor}
 use denote.Slice.{
-  slice_ty, slice_val, ShrSlice, Room, shr_slice_vals, shr_slice_Tells, shr_slice_copy,
+  slice_ty,
+  slice_val,
+  ShrSlice,
+  Room,
+  shr_slice_vals,
+  shr_slice_Tells,
+  shr_slice_copy,
 }
 use denote.Signature.{plain}
 use denote.Steps.{nothing, peeks, heard}
@@ -205,7 +211,8 @@ module _ {M : Type 1} {𝓤 : Ura M} (𝓛 : Logic 𝓤)
       (and_then ! (lit ! tt) (no_more !)))) (from ! (stop !))
       (init ! 3 refl (tt, (tt, (record { fits = lit< tt }, tt)))) $
       rewrite ! 3 (λ (k : ℕ). ‵
-      (fat full_share (slice_ty (ty_ref erased imm (pointee R.written))) l₅ 0 (slice_val (l₃, 0) k)))
+      (fat full_share (slice_ty (ty_ref erased imm (pointee R.written))) l₅ 0
+      (slice_val (l₃, 0) k)))
       (sym six) refl $
       -- the records are lent
       move ! (7 ∷ 0 ∷ []) $ use2 𝓛 (‵ (part_at D full_share ys l₃ 0)) (lies_in 𝓛 ys l₃ w) $

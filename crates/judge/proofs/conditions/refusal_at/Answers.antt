@@ -7,7 +7,7 @@ step_refusal-requires c =
     record {
       table_value = c.requires;
       unit_bound = at-step _ _ _ _ _ c.unit_count.ensures.value c.output_count.ensures.value
-      c.input_count.ensures.value _
+          c.input_count.ensures.value _
           c.call_in-asked.ensures _ c.in-Step.is;
     }
 
@@ -16,7 +16,7 @@ get_refusal-requires c =
     record {
       table_value = c.requires;
       output_bound = at_get _ _ _ _ _ c.unit_count.ensures.value c.output_count.ensures.value
-      c.input_count.ensures.value _
+          c.input_count.ensures.value _
           c.call_in-asked.ensures _ c.in-Get.is;
     }
 

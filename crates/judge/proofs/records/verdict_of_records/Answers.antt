@@ -4,7 +4,13 @@ use mathlib.Core.Path.{sym, ◌∙◌}
 use native.Mathlib.Omega.{arith}
 use Rattle.judge.proofs.Turns.{checked-number}
 use Rattle.judge.proofs.Walked.{
-  marked_starts, marked_on, carries_starts, carries_on, carries_off, carries_ends, unsound-refused,
+  marked_starts,
+  marked_on,
+  carries_starts,
+  carries_on,
+  carries_off,
+  carries_ends,
+  unsound-refused,
 }
 use Rattle.judge.proofs.records.verdict_of_records.Goals as goal
 
@@ -30,13 +36,12 @@ pub loop-place-preserved : goal.loop-place-preserved
 loop-place-preserved c =
     let sound = sym (checked-number _ _ c.check-checked.ensures) ∙ c.if-checked-ne0.false in
     let said = rw c.loop-place.invariant.1 at c.judge_record-number.ensures.value in
-    let marked = rw c.loop-place.invariant.1 at c.judge_record-number.ensures.done_after in
-    (
+    let marked = rw c.loop-place.invariant.1 at c.judge_record-number.ensures.done_after in (
       search rules,
       marked ∙ marked_on c.args.table.now c.args.records.now c.loop-place.place _
-      c.if-number-ne0.false,
+          c.if-number-ne0.false,
       carries_on c.args.table.now c.args.records.now sound c.loop-place.place _
-      c.loop-place-test.true said c.loop-place.invariant.2 c.if-number-ne0.false,
+          c.loop-place-test.true said c.loop-place.invariant.2 c.if-number-ne0.false,
     )
 
 pub returns : goal.returns

@@ -19,12 +19,11 @@ returns-then-lacking-2 c =
     some-yes _ _ _ c.loop-k-test.true (says c.lacking-in-loop-k.ensures c.if-lacking-2.true)
 
 pub loop-k-preserved : goal.loop-k-preserved
-loop-k-preserved c =
-    (
-      search rules,
-      two-more _ _ c.loop-k.invariant.1 (denies c.lacking.ensures c.if-lacking.false)
-          (denies c.lacking-in-loop-k.ensures c.if-lacking-2.false),
-    )
+loop-k-preserved c = (
+  search rules,
+  two-more _ _ c.loop-k.invariant.1 (denies c.lacking.ensures c.if-lacking.false)
+      (denies c.lacking-in-loop-k.ensures c.if-lacking-2.false),
+)
 
 pub returns-then-k-f : goal.returns-then-k-f
 returns-then-k-f c =

@@ -15,8 +15,11 @@ pub word-requires : goal.word-requires
 word-requires c =
     record {
       told = c.requires.told;
-      i_bound = (omega arith, has_field _ _ _ _ _ _ c.requires.told 4 2 _ 3
-      c.shape-bad.ensures.number c.if-bad-ne0.false (omega arith));
+      i_bound = (
+        omega arith,
+        has_field _ _ _ _ _ _ c.requires.told 4 2 _ 3
+            c.shape-bad.ensures.number c.if-bad-ne0.false (omega arith),
+      );
     }
 
 pub returns-then-kind-eq2 : goal.returns-then-kind-eq2
@@ -30,8 +33,11 @@ pub word-owner-requires : goal.word-owner-requires
 word-owner-requires c =
     record {
       told = c.requires.told;
-      i_bound = (omega arith, has_field _ _ _ _ _ _ c.requires.told 4 2 _ 1
-      c.shape-bad.ensures.number c.if-bad-ne0.false (omega arith));
+      i_bound = (
+        omega arith,
+        has_field _ _ _ _ _ _ c.requires.told 4 2 _ 1
+            c.shape-bad.ensures.number c.if-bad-ne0.false (omega arith),
+      );
     }
 
 pub find-u-requires : goal.find-u-requires
@@ -53,8 +59,11 @@ pub word-name-requires : goal.word-name-requires
 word-name-requires c =
     record {
       told = c.requires.told;
-      i_bound = (omega arith, has_field _ _ _ _ _ _ c.requires.told 4 2 _ 2
-      c.shape-bad.ensures.number c.if-bad-ne0.false (omega arith));
+      i_bound = (
+        omega arith,
+        has_field _ _ _ _ _ _ c.requires.told 4 2 _ 2
+            c.shape-bad.ensures.number c.if-bad-ne0.false (omega arith),
+      );
     }
 
 pub overflow_cast-u : goal.overflow_cast-u
@@ -92,8 +101,7 @@ returns-then-inputs-ge96 c =
     c.if-inputs-ge96.true)
 
 pub named-requires : goal.named-requires
-named-requires c =
-    (
+named-requires c = (
   omega (
     arith,
     c.if-units-u.false,

@@ -15,8 +15,11 @@ pub word-owner-requires : goal.word-owner-requires
 word-owner-requires c =
     record {
       told = c.requires.told;
-      i_bound = (omega arith, has_field _ _ _ _ _ _ c.requires.told 3 2 _ 1
-      c.shape-bad.ensures.number c.if-bad-ne0.false (omega arith));
+      i_bound = (
+        omega arith,
+        has_field _ _ _ _ _ _ c.requires.told 3 2 _ 1
+            c.shape-bad.ensures.number c.if-bad-ne0.false (omega arith),
+      );
     }
 
 pub find-u-requires : goal.find-u-requires
@@ -37,8 +40,11 @@ pub word-name-requires : goal.word-name-requires
 word-name-requires c =
     record {
       told = c.requires.told;
-      i_bound = (omega arith, has_field _ _ _ _ _ _ c.requires.told 3 2 _ 2
-      c.shape-bad.ensures.number c.if-bad-ne0.false (omega arith));
+      i_bound = (
+        omega arith,
+        has_field _ _ _ _ _ _ c.requires.told 3 2 _ 2
+            c.shape-bad.ensures.number c.if-bad-ne0.false (omega arith),
+      );
     }
 
 pub overflow_cast-u : goal.overflow_cast-u
@@ -75,8 +81,7 @@ returns-then-outputs-ge96 c =
     c.if-output.false c.if-outputs-ge96.true)
 
 pub named-requires : goal.named-requires
-named-requires c =
-    (
+named-requires c = (
   omega (
     arith,
     c.if-units-u.false,

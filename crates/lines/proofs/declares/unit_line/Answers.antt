@@ -14,8 +14,11 @@ pub word-name-requires : goal.word-name-requires
 word-name-requires c =
     record {
       told = c.requires.told;
-      i_bound = (omega arith, has_field _ _ _ _ _ _ c.requires.told 2 1 _ 1
-      c.shape-bad.ensures.number c.if-bad-ne0.false (omega arith));
+      i_bound = (
+        omega arith,
+        has_field _ _ _ _ _ _ c.requires.told 2 1 _ 1
+            c.shape-bad.ensures.number c.if-bad-ne0.false (omega arith),
+      );
     }
 
 pub seek-unit-requires : goal.seek-unit-requires
@@ -42,8 +45,7 @@ returns-then-units-ge32 c =
     c.if-unit.false c.if-units-ge32.true)
 
 pub named-requires : goal.named-requires
-named-requires c =
-    (
+named-requires c = (
   omega arith,
   omega (
     arith,

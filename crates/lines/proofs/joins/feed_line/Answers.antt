@@ -16,11 +16,11 @@ port-input-requires c =
       fit = c.requires.fit;
       told = c.requires.told;
       i_bound = (
-            omega arith,
-            has_field _ _ _ _ _ _ c.requires.told 4 3 _ 2 c.shape-bad.ensures.number
+        omega arith,
+        has_field _ _ _ _ _ _ c.requires.told 4 3 _ 2 c.shape-bad.ensures.number
             c.if-bad-ne0.false (omega
-                arith),
-          );
+            arith),
+      );
       ranked = c.requires.fit.inputs-ranked;
     }
 
@@ -43,8 +43,11 @@ pub word-name-requires : goal.word-name-requires
 word-name-requires c =
     record {
       told = c.requires.told;
-      i_bound = (omega arith, has_field _ _ _ _ _ _ c.requires.told 4 3 _ 3
-      c.shape-bad.ensures.number c.if-bad-ne0.false (omega arith));
+      i_bound = (
+        omega arith,
+        has_field _ _ _ _ _ _ c.requires.told 4 3 _ 3
+            c.shape-bad.ensures.number c.if-bad-ne0.false (omega arith),
+      );
     }
 
 pub find-y-requires : goal.find-y-requires
@@ -99,8 +102,7 @@ returns-then-feeds-ge128 c =
     c.if-feeds-ge128.true)
 
 pub wired-requires : goal.wired-requires
-wired-requires c =
-    (
+wired-requires c = (
   omega (
     arith,
     (c.port-input.ensures.some c.if-input-ne0.false).1.0,

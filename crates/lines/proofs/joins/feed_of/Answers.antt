@@ -7,7 +7,8 @@ use Rattle.notes.proofs.Slots.{fed-here, other-input, other-output}
 use borrow.Author.Tests.{eqb-true, eqb-false}
 use Rattle.lines.proofs.joins.feed_of.Goals as goal
 use Rattle.lines.proofs.joins.feed_of.Goals.{
-  else-slots-k-via-else-slots-k, else-slots-k-via-then-slots-k+else-slots-k-2,
+  else-slots-k-via-else-slots-k,
+  else-slots-k-via-then-slots-k+else-slots-k-2,
 }
 
 pub loop-k-init : goal.loop-k-init
@@ -44,16 +45,15 @@ pub loop-k-smaller : goal.loop-k-smaller
 loop-k-smaller c = omega arith
 
 pub loop-k-preserved : goal.loop-k-preserved
-loop-k-preserved c =
-    (
-      omega arith,
-      below_more _ _ c.loop-k.invariant.1
+loop-k-preserved c = (
+  omega arith,
+  below_more _ _ c.loop-k.invariant.1
       (elim c.else-slots-k.branch [
         | else-slots-k-via-then-slots-k+else-slots-k-2 w ↦
             other-output _ _ _ _ w.if-slots-k.true (eqb-false _ _ w.if-slots-k-2.false-raw)
         | else-slots-k-via-else-slots-k w ↦ other-input _ _ _ _ w.if-slots-k.false
       ]),
-    )
+)
 
 pub returns : goal.returns
 returns c =

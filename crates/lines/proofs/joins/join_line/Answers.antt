@@ -16,11 +16,11 @@ port-from-requires c =
       fit = c.requires.fit;
       told = c.requires.told;
       i_bound = (
-            omega arith,
-            has_field _ _ _ _ _ _ c.requires.told 5 4 _ 2 c.shape-bad.ensures.number
+        omega arith,
+        has_field _ _ _ _ _ _ c.requires.told 5 4 _ 2 c.shape-bad.ensures.number
             c.if-bad-ne0.false (omega
-                arith),
-          );
+            arith),
+      );
       ranked = c.requires.fit.outputs-ranked;
     }
 
@@ -37,11 +37,11 @@ port-to-requires c =
       fit = c.requires.fit;
       told = c.requires.told;
       i_bound = (
-            omega arith,
-            has_field _ _ _ _ _ _ c.requires.told 5 4 _ 4 c.shape-bad.ensures.number
+        omega arith,
+        has_field _ _ _ _ _ _ c.requires.told 5 4 _ 4 c.shape-bad.ensures.number
             c.if-bad-ne0.false (omega
-                arith),
-          );
+            arith),
+      );
       ranked = c.requires.fit.inputs-ranked;
     }
 
@@ -78,8 +78,7 @@ returns-then-slots-x c =
     c.if-slots-x.true)
 
 pub wired-requires : goal.wired-requires
-wired-requires c =
-    (
+wired-requires c = (
   omega (
     arith,
     (c.port-to.ensures.some c.if-to-ne0.false).1.0,

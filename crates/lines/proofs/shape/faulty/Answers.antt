@@ -25,10 +25,10 @@ overflow_sub-size c =
 pub overflow_cast-result : goal.overflow_cast-result
 overflow_cast-result c =
     omega (
-  arith,
-  c.loop-i-test.true,
-  c.requires.names_bound.0,
-)
+      arith,
+      c.loop-i-test.true,
+      c.requires.names_bound.0,
+    )
 
 pub returns-then-size-eq0 : goal.returns-then-size-eq0
 returns-then-size-eq0 c =
@@ -43,10 +43,10 @@ returns-then-size-eq0 c =
 pub overflow_cast-result-then-size-gt16 : goal.overflow_cast-result-then-size-gt16
 overflow_cast-result-then-size-gt16 c =
     omega (
-  arith,
-  c.loop-i-test.true,
-  c.requires.names_bound.0,
-)
+      arith,
+      c.loop-i-test.true,
+      c.requires.names_bound.0,
+    )
 
 pub returns-then-size-gt16 : goal.returns-then-size-gt16
 returns-then-size-gt16 c =
@@ -62,8 +62,7 @@ pub loop-i-smaller : goal.loop-i-smaller
 loop-i-smaller c = omega arith
 
 pub loop-i-preserved : goal.loop-i-preserved
-loop-i-preserved c =
-    (
+loop-i-preserved c = (
   omega arith,
   faulty_on _ _ c.loop-i.invariant.1
       (a_name _

@@ -23,7 +23,7 @@ unfolding stretch
 returns c =
     record {
       result_value = word-is _ _ _ c.requires.told _ _ _ c.requires.i_bound.0 c.requires.i_bound.1
-      c.wide-b.ensures c.wide-e.ensures;
+          c.wide-b.ensures c.wide-e.ensures;
       wordy = word_wordy _ _ _ c.requires.told _ _ _ c.requires.i_bound.0 c.requires.i_bound.1
-      c.wide-b.ensures c.wide-e.ensures;
+          c.wide-b.ensures c.wide-e.ensures;
     }

@@ -9,14 +9,13 @@ use Rattle.placing.proofs.blocks.lower_feeds.Goals as goal
 use Rattle.placing.proofs.blocks.lower_feeds.Goals.{else-left-eq1, then-left-eq1}
 
 pub loop-left-init : goal.loop-left-init
-loop-left-init c =
-    (
-      omega (arith, c.requires.blocks_bound),
-      c.requires.within,
-      blocks_start (is_input c.args.pairs.now c.args.input) (fed c.args.pairs.now c.args.first)
+loop-left-init c = (
+  omega (arith, c.requires.blocks_bound),
+  c.requires.within,
+  blocks_start (is_input c.args.pairs.now c.args.input) (fed c.args.pairs.now c.args.first)
       c.args.count
-          c.args.waiting.now c.args.ready.now c.requires.words,
-    )
+      c.args.waiting.now c.args.ready.now c.requires.words,
+)
 
 pub overflow_add-from : goal.overflow_add-from
 overflow_add-from c = record { fits = omega (arith, c.loop-left.invariant.0) }
@@ -47,17 +46,17 @@ lower_fed-requires c =
       waiting_len = c.loop-left.invariant.2.falls.long ∙ c.requires.waiting_len;
       words = c.loop-left.invariant.2.words;
       pairs_len = feeds-long c.args.pairs.now c.args.count c.args.input c.args.first
-      c.loop-left.from c.least-a.result
-              c.least-z.result c.least-a.ensures c.least-z.ensures c.requires.pairs_len;
+          c.loop-left.from c.least-a.result
+          c.least-z.result c.least-a.ensures c.least-z.ensures c.requires.pairs_len;
       by_index = feeds-fit c.args.pairs.now c.args.count c.args.input c.args.first
-      c.loop-left.from c.least-a.result
-                c.least-z.result c.least-a.ensures c.least-z.ensures c.requires.pairs_len
-                c.requires.by_index;
+          c.loop-left.from c.least-a.result
+          c.least-z.result c.least-a.ensures c.least-z.ensures c.requires.pairs_len
+          c.requires.by_index;
       by_index_2 = feeds-room c.args.pairs.now c.args.count c.args.input c.args.first
-      c.loop-left.from c.least-a.result
-                c.least-z.result c.least-a.ensures c.least-z.ensures c.requires.pairs_len
-                c.args.waiting.now c.loop-left.waiting c.args.ready.now c.loop-left.ready
-                c.requires.by_index_2 c.loop-left.invariant.2;
+          c.loop-left.from c.least-a.result
+          c.least-z.result c.least-a.ensures c.least-z.ensures c.requires.pairs_len
+          c.args.waiting.now c.loop-left.waiting c.args.ready.now c.loop-left.ready
+          c.requires.by_index_2 c.loop-left.invariant.2;
     }
 
 pub overflow_add-from-in-loop-left : goal.overflow_add-from-in-loop-left
@@ -69,25 +68,24 @@ loop-left-smaller c = omega (arith, c.loop-left-test.true)
 pub loop-left-preserved : goal.loop-left-preserved
 loop-left-preserved c =
     let q = is_input c.args.pairs.now c.args.input in
-    let at = fed c.args.pairs.now c.args.first in
-    (
+    let at = fed c.args.pairs.now c.args.first in (
       omega (arith, c.loop-left.invariant.0, c.loop-left-test.true),
       within-half q c.args.count c.loop-left.from c.loop-left.left 32 (λ i h. omega arith)
-      c.loop-left.invariant.1,
+          c.loop-left.invariant.1,
       elim c.if-left-eq1.branch [
-      | then-left-eq1 w ↦
-          rw (w.waiting-is, w.ready-is)
-          (feeds_on c.args.pairs.now c.args.count c.args.input c.args.first c.loop-left.from
-          w.least-a.result
-          w.least-z.result w.least-a.ensures w.least-z.ensures c.requires.pairs_len _ _ _ _ _ _
-          c.loop-left.invariant.2
-          w.lower_fed.ensures)
-      | else-left-eq1 w ↦
-          rw (w.waiting-is, w.ready-is)
-          (blocks_miss q at c.args.count c.loop-left.from 32 c.loop-left.left _ _ _ _
-          c.loop-left.invariant.1 w.if-left-eq1.false
-          c.loop-left.invariant.2)
-    ],
+        | then-left-eq1 w ↦
+            rw (w.waiting-is, w.ready-is)
+            (feeds_on c.args.pairs.now c.args.count c.args.input c.args.first c.loop-left.from
+            w.least-a.result
+            w.least-z.result w.least-a.ensures w.least-z.ensures c.requires.pairs_len _ _ _ _ _ _
+            c.loop-left.invariant.2
+            w.lower_fed.ensures)
+        | else-left-eq1 w ↦
+            rw (w.waiting-is, w.ready-is)
+            (blocks_miss q at c.args.count c.loop-left.from 32 c.loop-left.left _ _ _ _
+            c.loop-left.invariant.1 w.if-left-eq1.false
+            c.loop-left.invariant.2)
+      ],
     )
 
 pub returns : goal.returns

@@ -11,13 +11,12 @@ use Rattle.placing.proofs.blocks.lower_row.Goals as goal
 use Rattle.placing.proofs.blocks.lower_row.Goals.{else-left-eq1, then-left-eq1}
 
 pub loop-left-init : goal.loop-left-init
-loop-left-init c =
-    (
-      omega (arith, c.requires.blocks_bound),
-      c.requires.within,
-      blocks_start (is_key c.args.keys.now c.args.key) (nth c.args.first) (length c.args.keys.now)
-          c.args.waiting.now c.args.ready.now c.requires.words,
-    )
+loop-left-init c = (
+  omega (arith, c.requires.blocks_bound),
+  c.requires.within,
+  blocks_start (is_key c.args.keys.now c.args.key) (nth c.args.first) (length c.args.keys.now)
+      c.args.waiting.now c.args.ready.now c.requires.words,
+)
 
 pub overflow_add-from : goal.overflow_add-from
 overflow_add-from c = record { fits = omega (arith, c.loop-left.invariant.0) }
@@ -41,12 +40,12 @@ lower_keyed-requires c =
       waiting_len = c.loop-left.invariant.2.falls.long ∙ c.requires.waiting_len;
       words = c.loop-left.invariant.2.words;
       keys_bound = row_fits c.args.keys.now c.args.key c.args.first c.loop-left.from
-      c.least-a.result c.least-z.result c.least-a.ensures c.least-z.ensures
-              c.requires.keys_bound;
+          c.least-a.result c.least-z.result c.least-a.ensures c.least-z.ensures
+          c.requires.keys_bound;
       by_index = row_room c.args.keys.now c.args.key c.args.first c.loop-left.from
-      c.least-a.result c.least-z.result c.least-a.ensures c.least-z.ensures
-              c.args.waiting.now c.loop-left.waiting c.args.ready.now c.loop-left.ready
-              c.requires.by_index c.loop-left.invariant.2;
+          c.least-a.result c.least-z.result c.least-a.ensures c.least-z.ensures
+          c.args.waiting.now c.loop-left.waiting c.args.ready.now c.loop-left.ready
+          c.requires.by_index c.loop-left.invariant.2;
     }
 
 pub overflow_add-from-in-loop-left : goal.overflow_add-from-in-loop-left
@@ -56,25 +55,26 @@ pub loop-left-smaller : goal.loop-left-smaller
 loop-left-smaller c = omega (arith, c.loop-left-test.true)
 
 pub loop-left-preserved : goal.loop-left-preserved
-loop-left-preserved c =
-    (
-      omega (arith, c.loop-left.invariant.0, c.loop-left-test.true),
-      within-half (is_key c.args.keys.now c.args.key) (length c.args.keys.now) c.loop-left.from
+loop-left-preserved c = (
+  omega (arith, c.loop-left.invariant.0, c.loop-left-test.true),
+  within-half (is_key c.args.keys.now c.args.key) (length c.args.keys.now) c.loop-left.from
       c.loop-left.left 24
-          (λ i h. omega arith) c.loop-left.invariant.1,
-      elim c.if-left-eq1.branch [
-      | then-left-eq1 w ↦
-          rw (w.waiting-is, w.ready-is)
-          (row_on c.args.keys.now c.args.key c.args.first c.loop-left.from w.least-a.result w.least-z.result
-          w.least-a.ensures w.least-z.ensures _ _ _ _ _ _ c.loop-left.invariant.2 w.lower_keyed.ensures)
-      | else-left-eq1 w ↦
-          rw (w.waiting-is, w.ready-is)
-          (blocks_miss (is_key c.args.keys.now c.args.key) (nth c.args.first)
-          (length c.args.keys.now)
-          c.loop-left.from 24 c.loop-left.left _ _ _ _ c.loop-left.invariant.1 w.if-left-eq1.false
-          c.loop-left.invariant.2)
-    ],
-    )
+      (λ i h. omega arith) c.loop-left.invariant.1,
+  elim c.if-left-eq1.branch [
+    | then-left-eq1 w ↦
+        rw (w.waiting-is, w.ready-is)
+        (row_on c.args.keys.now c.args.key c.args.first c.loop-left.from w.least-a.result
+        w.least-z.result
+        w.least-a.ensures w.least-z.ensures _ _ _ _ _ _ c.loop-left.invariant.2
+        w.lower_keyed.ensures)
+    | else-left-eq1 w ↦
+        rw (w.waiting-is, w.ready-is)
+        (blocks_miss (is_key c.args.keys.now c.args.key) (nth c.args.first)
+        (length c.args.keys.now)
+        c.loop-left.from 24 c.loop-left.left _ _ _ _ c.loop-left.invariant.1 w.if-left-eq1.false
+        c.loop-left.invariant.2)
+  ],
+)
 
 pub returns : goal.returns
 returns c =

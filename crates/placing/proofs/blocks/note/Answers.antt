@@ -10,17 +10,22 @@ use Rattle.placing.proofs.blocks.note.Goals as goal
 use Rattle.placing.proofs.blocks.note.Goals.{else-left-eq0, then-left-eq0}
 
 pub loop-i-init : goal.loop-i-init
-loop-i-init c =
-    (
-      search rules,
-      stands_starts c.args.low (length c.args.keys.now) c.requires.low_bound,
-      noting_starts (called c.args.keys.now) 24 c.args.low c.args.notes.now,
-    )
+loop-i-init c = (
+  search rules,
+  stands_starts c.args.low (length c.args.keys.now) c.requires.low_bound,
+  noting_starts (called c.args.keys.now) 24 c.args.low c.args.notes.now,
+)
 
 pub overflow_cast-key : goal.overflow_cast-key
 overflow_cast-key c =
-    record { fits = omega (arith, c.requires.notes_len_bound, c.requires.by_index c.loop-i.i
-    c.loop-i-test.true) }
+    record {
+      fits = omega (
+        arith,
+        c.requires.notes_len_bound,
+        c.requires.by_index c.loop-i.i
+            c.loop-i-test.true,
+      );
+    }
 
 pub bounds-notes-key : goal.bounds-notes-key
 bounds-notes-key c =
@@ -37,21 +42,20 @@ pub loop-i-preserved : goal.loop-i-preserved
 loop-i-preserved c =
     let n = length c.args.keys.now in
     let fits : called c.args.keys.now c.loop-i.i < length c.loop-i.notes = omega
-    (arith, c.loop-i.invariant.2.long, c.requires.by_index c.loop-i.i c.loop-i-test.true) in
-    (
+    (arith, c.loop-i.invariant.2.long, c.requires.by_index c.loop-i.i c.loop-i-test.true) in (
       search rules,
       elim c.if-left-eq0.branch [
-      | then-left-eq0 w ↦
-          rw (w.bit-is, w.left-is)
-          (stands-next c.args.low n c.requires.low_bound c.loop-i.i c.loop-i.bit c.loop-i.left
-          c.requires.keys_len_bound c.loop-i-test.true c.loop-i.invariant.1
-          w.if-left-eq0.true)
-      | else-left-eq0 w ↦
-          rw (w.bit-is, w.left-is)
-          (stands_on c.args.low n c.requires.low_bound c.loop-i.i c.loop-i.bit c.loop-i.left
-          c.requires.keys_len_bound c.loop-i-test.true c.loop-i.invariant.1
-          w.if-left-eq0.false)
-    ],
+        | then-left-eq0 w ↦
+            rw (w.bit-is, w.left-is)
+            (stands-next c.args.low n c.requires.low_bound c.loop-i.i c.loop-i.bit c.loop-i.left
+            c.requires.keys_len_bound c.loop-i-test.true c.loop-i.invariant.1
+            w.if-left-eq0.true)
+        | else-left-eq0 w ↦
+            rw (w.bit-is, w.left-is)
+            (stands_on c.args.low n c.requires.low_bound c.loop-i.i c.loop-i.bit c.loop-i.left
+            c.requires.keys_len_bound c.loop-i-test.true c.loop-i.invariant.1
+            w.if-left-eq0.false)
+      ],
       rw (c.loop-i.invariant.1.is c.loop-i-test.true)
           (noting_on (called c.args.keys.now) 24 c.args.low c.loop-i.i c.args.notes.now
           c.loop-i.notes fits

@@ -17,8 +17,14 @@ loop-k-init c =
 
 pub overflow_cast-input : goal.overflow_cast-input
 overflow_cast-input c =
-    record { fits = omega (arith, c.requires.notes_len_bound, c.requires.by_index c.loop-k.k
-    c.loop-k-test.true) }
+    record {
+      fits = omega (
+        arith,
+        c.requires.notes_len_bound,
+        c.requires.by_index c.loop-k.k
+            c.loop-k-test.true,
+      );
+    }
 
 pub bounds-notes-input : goal.bounds-notes-input
 bounds-notes-input c =
@@ -32,11 +38,14 @@ pub loop-k-preserved : goal.loop-k-preserved
 loop-k-preserved c =
     let key = pair_input c.args.pairs.now in
     let fits : key c.loop-k.k < length c.loop-k.notes = omega
-    (arith, c.loop-k.invariant.1.long, c.requires.by_index c.loop-k.k c.loop-k-test.true) in
-    (
+    (arith, c.loop-k.invariant.1.long, c.requires.by_index c.loop-k.k c.loop-k-test.true) in (
       search rules,
-      rw (byte-bit (c.loop-k.k / 32) (omega (arith, c.requires.pairs_len, c.requires.count_bound,
-      c.loop-k-test.true)))
+      rw (byte-bit (c.loop-k.k / 32) (omega (
+        arith,
+        c.requires.pairs_len,
+        c.requires.count_bound,
+        c.loop-k-test.true,
+      )))
           (subst
           (λ b. Noting key 32 0 (c.loop-k.k + 1) c.args.notes.now
           (set c.loop-k.notes (key c.loop-k.k) (bit_or (get_or c.loop-k.notes (key c.loop-k.k) 0)

@@ -22,8 +22,8 @@ lower_pair-requires c =
       k_in_bounds = omega (arith, c.requires.pairs_len, c.loop-k-test.true);
       k_bound = c.requires.by_index c.loop-k.k (omega (arith, c.loop-k-test.true));
       by_index = lower_room q at c.loop-k.k c.args.count c.args.waiting.now _
-      (omega (arith, c.loop-k-test.true))
-                c.requires.by_index_2 c.loop-k.invariant.1.falls;
+          (omega (arith, c.loop-k-test.true))
+          c.requires.by_index_2 c.loop-k.invariant.1.falls;
     }
 
 pub lower_pair-requires-in-loop-k : goal.lower_pair-requires-in-loop-k
@@ -38,14 +38,13 @@ lower_pair-requires-in-loop-k c =
       k_in_bounds = omega (arith, c.requires.pairs_len, c.loop-k-test.true);
       k_bound = c.requires.by_index (c.loop-k.k + 1) (omega (arith, c.loop-k-test.true));
       by_index = lower_room q at (c.loop-k.k + 1) c.args.count c.args.waiting.now _
-                (omega (arith, c.loop-k-test.true)) c.requires.by_index_2 lowered.falls;
+          (omega (arith, c.loop-k-test.true)) c.requires.by_index_2 lowered.falls;
     }
 
 pub loop-k-preserved : goal.loop-k-preserved
 loop-k-preserved c =
     let q = is_input c.args.pairs.now c.args.input in
-    let at = fed c.args.pairs.now c.args.first in
-    (
+    let at = fed c.args.pairs.now c.args.first in (
       search rules,
       lowers_all q at (c.loop-k.k + 2) (c.loop-k.k + 1 + 1) _ _ _ _ (omega arith) (omega arith)
           (lowers_next q at (c.loop-k.k + 1) _ _ _ _ _ _
@@ -63,8 +62,8 @@ lower_pair-requires-then-k-count c =
       k_in_bounds = omega (arith, c.requires.pairs_len, c.if-k-count.true);
       k_bound = c.requires.by_index c.loop-k.k (omega (arith, c.if-k-count.true));
       by_index = lower_room q at c.loop-k.k c.args.count c.args.waiting.now _
-      (omega (arith, c.if-k-count.true))
-                c.requires.by_index_2 c.loop-k.invariant.1.falls;
+          (omega (arith, c.if-k-count.true))
+          c.requires.by_index_2 c.loop-k.invariant.1.falls;
     }
 
 pub returns-then-k-count : goal.returns-then-k-count

@@ -23,28 +23,27 @@ lower-requires c =
       words = c.loop-i.invariant.1.words;
       call_bound = omega (arith, c.requires.keys_bound, c.loop-i-test.true);
       nonzero = lower_some (is_key c.args.keys.now c.args.key) (nth c.args.first) c.loop-i.i
-      (length c.args.keys.now)
-              c.args.waiting.now c.loop-i.waiting c.loop-i-test.true
-              (eq_true _ _ c.if-keys-i.true) c.requires.by_index
-              c.loop-i.invariant.1.falls;
+          (length c.args.keys.now)
+          c.args.waiting.now c.loop-i.waiting c.loop-i-test.true
+          (eq_true _ _ c.if-keys-i.true) c.requires.by_index
+          c.loop-i.invariant.1.falls;
     }
 
 pub loop-i-preserved : goal.loop-i-preserved
-loop-i-preserved c =
-    (
-      search rules,
-      elim c.if-keys-i.branch [
-      | then-keys-i w ↦
-          rw (w.waiting-is, w.ready-is)
-          (lowers_hit (is_key c.args.keys.now c.args.key) (nth c.args.first) c.loop-i.i _ _ _ _ _
-          _
-          (eq_true _ _ w.if-keys-i.true) c.loop-i.invariant.1 w.lower.ensures)
-      | else-keys-i w ↦
-          rw (w.waiting-is, w.ready-is)
-          (lowers_miss (is_key c.args.keys.now c.args.key) (nth c.args.first) c.loop-i.i _ _ _ _
-          (eq_false _ _ w.if-keys-i.false) c.loop-i.invariant.1)
-    ],
-    )
+loop-i-preserved c = (
+  search rules,
+  elim c.if-keys-i.branch [
+    | then-keys-i w ↦
+        rw (w.waiting-is, w.ready-is)
+        (lowers_hit (is_key c.args.keys.now c.args.key) (nth c.args.first) c.loop-i.i _ _ _ _ _
+        _
+        (eq_true _ _ w.if-keys-i.true) c.loop-i.invariant.1 w.lower.ensures)
+    | else-keys-i w ↦
+        rw (w.waiting-is, w.ready-is)
+        (lowers_miss (is_key c.args.keys.now c.args.key) (nth c.args.first) c.loop-i.i _ _ _ _
+        (eq_false _ _ w.if-keys-i.false) c.loop-i.invariant.1)
+  ],
+)
 
 pub returns : goal.returns
 returns c =

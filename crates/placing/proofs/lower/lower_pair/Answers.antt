@@ -12,9 +12,9 @@ lower-requires c =
       words = c.requires.words;
       call_bound = c.requires.k_bound;
       nonzero = pass_some (is_input c.args.pairs.now c.args.input c.args.k)
-              (fed c.args.pairs.now c.args.first c.args.k) c.args.waiting.now
-              (eq_true _ _ c.if-pairs-k.true)
-              c.requires.by_index;
+          (fed c.args.pairs.now c.args.first c.args.k) c.args.waiting.now
+          (eq_true _ _ c.if-pairs-k.true)
+          c.requires.by_index;
     }
 
 pub returns-then-pairs-k : goal.returns-then-pairs-k

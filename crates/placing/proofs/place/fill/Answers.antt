@@ -14,10 +14,18 @@ pub raise_range-requires : goal.raise_range-requires
 raise_range-requires c =
     record {
       waiting_len = c.requires.waiting_len;
-      count_bound = omega (arith, c.unit_count-gets.ensures.value,
-      c.output_count-outputs.ensures.value, fits c.args.table.now c.requires.sound);
-      by_index = (λ k. omega (arith, c.requires.by_index k, row-once each c.unit_count-gets.result
-      c.output_count-outputs.result k));
+      count_bound = omega (
+        arith,
+        c.unit_count-gets.ensures.value,
+        c.output_count-outputs.ensures.value,
+        fits c.args.table.now c.requires.sound,
+      );
+      by_index = (λ k. omega (
+        arith,
+        c.requires.by_index k,
+        row-once each c.unit_count-gets.result
+            c.output_count-outputs.result k,
+      ));
     }
 
 pub raise_range-requires-2 : goal.raise_range-requires-2
@@ -25,46 +33,50 @@ raise_range-requires-2 c =
     let f = fits c.args.table.now c.requires.sound in
     record {
       waiting_len = sym c.raise_range.ensures.long ∙ c.requires.waiting_len;
-      count_bound = omega (arith, c.unit_count-gets.ensures.value,
-      c.output_count-outputs.ensures.value, c.input_count.ensures.value);
+      count_bound = omega (
+        arith,
+        c.unit_count-gets.ensures.value,
+        c.output_count-outputs.ensures.value,
+        c.input_count.ensures.value,
+      );
       by_index = (λ k. omega (
-          arith,
-          c.requires.by_index k,
-          c.raise_range.ensures.less k,
-          row-once each c.unit_count-gets.result c.output_count-outputs.result k,
-          row-once each (c.unit_count-gets.result + c.output_count-outputs.result)
-          c.input_count.result k,
-        ));
+        arith,
+        c.requires.by_index k,
+        c.raise_range.ensures.less k,
+        row-once each c.unit_count-gets.result c.output_count-outputs.result k,
+        row-once each (c.unit_count-gets.result + c.output_count-outputs.result)
+            c.input_count.result k,
+      ));
     }
 
 pub raise_fed-requires : goal.raise_fed-requires
 raise_fed-requires c =
     record {
       waiting_len = sym c.raise_range-2.ensures.long ∙ sym c.raise_range.ensures.long ∙
-      c.requires.waiting_len;
+          c.requires.waiting_len;
       pairs_len = omega (
-          arith,
-          ap length c.feed_pairs.ensures,
-          long-pairs c.args.table.now c.requires.sound.long,
-          c.feed_count.ensures.value,
-        );
+        arith,
+        ap length c.feed_pairs.ensures,
+        long-pairs c.args.table.now c.requires.sound.long,
+        c.feed_count.ensures.value,
+      );
       by_index = fed-fits c.args.table.now c.requires.sound _ _ _ c.unit_count-gets.ensures.value
-      c.feed_count.ensures.value
-              c.feed_pairs.ensures;
+          c.feed_count.ensures.value
+          c.feed_pairs.ensures;
       by_index_2 = (λ k. omega (
-            arith,
-            c.requires.by_index k,
-            c.raise_range.ensures.less k,
-            c.raise_range-2.ensures.less k,
-            row-once each c.unit_count-gets.result c.output_count-outputs.result k,
-            row-once each (c.unit_count-gets.result + c.output_count-outputs.result)
+        arith,
+        c.requires.by_index k,
+        c.raise_range.ensures.less k,
+        c.raise_range-2.ensures.less k,
+        row-once each c.unit_count-gets.result c.output_count-outputs.result k,
+        row-once each (c.unit_count-gets.result + c.output_count-outputs.result)
             c.input_count.result
-                k,
-            hits-le (fed c.feed_pairs.result.now c.unit_count-gets.result) c.feed_count.result k
-                each,
-            c.feed_count.ensures.value,
-            c.requires.sound.counted.feeds-most,
-          ));
+            k,
+        hits-le (fed c.feed_pairs.result.now c.unit_count-gets.result) c.feed_count.result k
+            each,
+        c.feed_count.ensures.value,
+        c.requires.sound.counted.feeds-most,
+      ));
     }
 
 pub raise_called-requires : goal.raise_called-requires
@@ -77,33 +89,33 @@ raise_called-requires c =
           ∙ sym c.raise_range.ensures.long
           ∙ c.requires.waiting_len;
       keys_len = lk
-            ∙ sym
-            (ap length c.input_owners.ensures ∙ long_input_owners c.args.table.now
-            c.requires.sound.long);
+          ∙ sym
+          (ap length c.input_owners.ensures ∙ long_input_owners c.args.table.now
+          c.requires.sound.long);
       by_index = (λ i h. rw c.input_owners.ensures
-              (omega (
-                arith,
-                c.requires.sound.wired.input-owned i (omega (arith, lk)),
-                fits c.args.table.now c.requires.sound,
-              )));
-      by_index_2 = (λ k. omega (
+          (omega (
             arith,
-            c.requires.by_index k,
-            c.raise_range.ensures.less k,
-            c.raise_range-2.ensures.less k,
-            c.raise_fed.ensures.less k,
-            row-once each c.unit_count-gets.result c.output_count-outputs.result k,
-            row-once each (c.unit_count-gets.result + c.output_count-outputs.result)
-                c.input_count.result k,
-            hits-le (fed c.feed_pairs.result.now c.unit_count-gets.result) c.feed_count.result
-                k each,
-            c.feed_count.ensures.value,
-            c.requires.sound.counted.feeds-most,
-            hits-le (called c.input_owners.result.now) (length c.input_kinds-kinds.result.now)
-                k (is_key c.input_kinds-kinds.result.now 1),
-            lk,
-            c.requires.sound.counted.inputs-most,
-          ));
+            c.requires.sound.wired.input-owned i (omega (arith, lk)),
+            fits c.args.table.now c.requires.sound,
+          )));
+      by_index_2 = (λ k. omega (
+        arith,
+        c.requires.by_index k,
+        c.raise_range.ensures.less k,
+        c.raise_range-2.ensures.less k,
+        c.raise_fed.ensures.less k,
+        row-once each c.unit_count-gets.result c.output_count-outputs.result k,
+        row-once each (c.unit_count-gets.result + c.output_count-outputs.result)
+            c.input_count.result k,
+        hits-le (fed c.feed_pairs.result.now c.unit_count-gets.result) c.feed_count.result
+            k each,
+        c.feed_count.ensures.value,
+        c.requires.sound.counted.feeds-most,
+        hits-le (called c.input_owners.result.now) (length c.input_kinds-kinds.result.now)
+            k (is_key c.input_kinds-kinds.result.now 1),
+        lk,
+        c.requires.sound.counted.inputs-most,
+      ));
     }
 
 pub raise_keyed-requires : goal.raise_keyed-requires
@@ -117,35 +129,35 @@ raise_keyed-requires c =
           ∙ sym c.raise_range.ensures.long
           ∙ c.requires.waiting_len;
       keys_bound = omega (
-          arith,
-          c.unit_count-gets.ensures.value,
-          c.output_count-outputs.ensures.value,
-          lk,
-          fits c.args.table.now c.requires.sound,
-        );
+        arith,
+        c.unit_count-gets.ensures.value,
+        c.output_count-outputs.ensures.value,
+        lk,
+        fits c.args.table.now c.requires.sound,
+      );
       by_index = (λ k. omega (
-          arith,
-          c.requires.by_index k,
-          c.raise_range.ensures.less k,
-          c.raise_range-2.ensures.less k,
-          c.raise_fed.ensures.less k,
-          c.raise_called.ensures.less k,
-          row-once each c.unit_count-gets.result c.output_count-outputs.result k,
-          row-once each (c.unit_count-gets.result + c.output_count-outputs.result)
-          c.input_count.result k,
-          hits-le (fed c.feed_pairs.result.now c.unit_count-gets.result) c.feed_count.result k
-              each,
-          c.feed_count.ensures.value,
-          c.requires.sound.counted.feeds-most,
-          hits-le (called c.input_owners.result.now) (length c.input_kinds-kinds.result.now) k
-              (is_key c.input_kinds-kinds.result.now 1),
-          lk,
-          c.requires.sound.counted.inputs-most,
-          row-once (is_key c.input_kinds-kinds.result.now 0)
-              (c.unit_count-gets.result + c.output_count-outputs.result)
-              (length c.input_kinds-kinds.result.now)
-              k,
-        ));
+        arith,
+        c.requires.by_index k,
+        c.raise_range.ensures.less k,
+        c.raise_range-2.ensures.less k,
+        c.raise_fed.ensures.less k,
+        c.raise_called.ensures.less k,
+        row-once each c.unit_count-gets.result c.output_count-outputs.result k,
+        row-once each (c.unit_count-gets.result + c.output_count-outputs.result)
+            c.input_count.result k,
+        hits-le (fed c.feed_pairs.result.now c.unit_count-gets.result) c.feed_count.result k
+            each,
+        c.feed_count.ensures.value,
+        c.requires.sound.counted.feeds-most,
+        hits-le (called c.input_owners.result.now) (length c.input_kinds-kinds.result.now) k
+            (is_key c.input_kinds-kinds.result.now 1),
+        lk,
+        c.requires.sound.counted.inputs-most,
+        row-once (is_key c.input_kinds-kinds.result.now 0)
+            (c.unit_count-gets.result + c.output_count-outputs.result)
+            (length c.input_kinds-kinds.result.now)
+            k,
+      ));
     }
 
 pub returns : goal.returns

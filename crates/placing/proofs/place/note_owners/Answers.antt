@@ -15,12 +15,12 @@ note-requires c =
       keys_len_bound = omega (arith, n, c.requires.sound.counted.outputs-most);
       notes_len_bound = omega (arith, c.requires.own_len);
       by_index = (λ i h. rw c.output_owners.ensures
-              (omega (
-                arith,
-                c.requires.own_len,
-                c.requires.sound.counted.units-most,
-                c.requires.sound.wired.output-owned i (omega (arith, n)),
-              )));
+          (omega (
+            arith,
+            c.requires.own_len,
+            c.requires.sound.counted.units-most,
+            c.requires.sound.wired.output-owned i (omega (arith, n)),
+          )));
     }
 
 pub note-requires-2 : goal.note-requires-2
@@ -32,13 +32,13 @@ note-requires-2 c =
       keys_len_bound = omega (arith, n, c.requires.sound.counted.inputs-most);
       notes_len_bound = omega (arith, c.requires.own_len, c.note.ensures.long);
       by_index = (λ i h. rw c.input_owners.ensures
-              (omega (
-                arith,
-                c.requires.own_len,
-                c.note.ensures.long,
-                c.requires.sound.counted.units-most,
-                c.requires.sound.wired.input-owned i (omega (arith, n)),
-              )));
+          (omega (
+            arith,
+            c.requires.own_len,
+            c.note.ensures.long,
+            c.requires.sound.counted.units-most,
+            c.requires.sound.wired.input-owned i (omega (arith, n)),
+          )));
     }
 
 pub returns : goal.returns

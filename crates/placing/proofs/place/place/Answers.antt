@@ -9,8 +9,12 @@ use Rattle.placing.proofs.place.place.Goals as goal
 pub find_ready-requires : goal.find_ready-requires
 find_ready-requires c =
     record {
-      count_bound = omega (arith, c.unit_count.ensures.value, few-calls c.args.table.now
-      c.requires.sound);
+      count_bound = omega (
+        arith,
+        c.unit_count.ensures.value,
+        few-calls c.args.table.now
+            c.requires.sound,
+      );
       words = empty-words;
       ready_value = empty-has;
     }
@@ -23,9 +27,9 @@ place_ready-requires c =
       owned = c.note_owners.ensures;
       joined = c.note_joins.ensures;
       waiting = waiting_starts (shape_of c.args.table.now) _ _ c.fill.ensures.waiting_len_2
-      c.fill.ensures.by_index_2
-                c.find_ready.ensures.words_2 (rw (← c.unit_count.ensures.value)
-                c.find_ready.ensures.by_index);
+          c.fill.ensures.by_index_2
+          c.find_ready.ensures.words_2 (rw (← c.unit_count.ensures.value)
+          c.find_ready.ensures.by_index);
     }
 
 pub returns : goal.returns

@@ -35,7 +35,8 @@ pub place-placed-requires : goal.place-placed-requires
 place-placed-requires c =
     record {
       sound =
-          passed-sound c.args.table.now (sym c.first_refusal-number.ensures ∙ c.if-number-ne0.false);
+          passed-sound c.args.table.now (sym c.first_refusal-number.ensures
+          ∙ c.if-number-ne0.false);
       count_value = c.call_count-count.ensures;
       waiting_len = search rules;
       by_index = zeros 224;
@@ -47,8 +48,14 @@ write_back-requires c =
     let stand = stood c.args.table.now _ c.place-placed.ensures.standing _ _
     c.place-placed.ensures.count_value_2 c.place-placed.ensures.last_value in
     record {
-      count_in_bounds = omega (arith, c.place-placed.ensures.count_value_2, placed-most
-      c.args.table.now, c.call_count-count.ensures, c.if-calls-count.false);
+      count_in_bounds = omega (
+        arith,
+        c.place-placed.ensures.count_value_2,
+        placed-most
+            c.args.table.now,
+        c.call_count-count.ensures,
+        c.if-calls-count.false,
+      );
       by_index = (λ x h. omega (
         arith,
         placed-known c.args.table.now x (subst (λ l. T (among l x)) stand h),

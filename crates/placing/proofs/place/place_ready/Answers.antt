@@ -33,14 +33,22 @@ returns-then-count-call c =
 
 pub bounds-waiting-call : goal.bounds-waiting-call
 bounds-waiting-call c =
-    omega (arith, c.requires.count_value, few-calls c.args.table.now c.requires.sound,
-    c.if-count-call.false)
+    omega (
+      arith,
+      c.requires.count_value,
+      few-calls c.args.table.now c.requires.sound,
+      c.if-count-call.false,
+    )
 
 pub overflow_cast-last : goal.overflow_cast-last
 overflow_cast-last c =
     record {
-      fits = omega (arith, c.requires.count_value, few-calls c.args.table.now c.requires.sound,
-      c.if-count-call.false);
+      fits = omega (
+        arith,
+        c.requires.count_value,
+        few-calls c.args.table.now c.requires.sound,
+        c.if-count-call.false,
+      );
     }
 
 pub release-requires : goal.release-requires
@@ -57,16 +65,14 @@ release-requires c =
       owned = c.requires.owned;
       joined = c.requires.joined;
       waiting_len = stage_long c.args.table.now c.requires.sound
-      (take c.loop-k.k (placed_of c.args.table.now)) c.loop-k.waiting c.loop-k.ready c.loop-k.last
-      c.loop-k.invariant.1
-                  c.lowest-call.result e h;
+          (take c.loop-k.k (placed_of c.args.table.now)) c.loop-k.waiting c.loop-k.ready
+          c.loop-k.last c.loop-k.invariant.1 c.lowest-call.result e h;
       words = rw c.take_out.ensures
-                    (drop-words c.loop-k.ready c.lowest-call.result (omega arith)
-                    c.loop-k.invariant.1.waiting.words);
+          (drop-words c.loop-k.ready c.lowest-call.result (omega arith)
+          c.loop-k.invariant.1.waiting.words);
       by_index = stage_room c.args.table.now c.requires.sound
-      (take c.loop-k.k (placed_of c.args.table.now)) c.loop-k.waiting c.loop-k.ready c.loop-k.last
-      c.loop-k.invariant.1
-                    c.lowest-call.result e h;
+          (take c.loop-k.k (placed_of c.args.table.now)) c.loop-k.waiting c.loop-k.ready
+          c.loop-k.last c.loop-k.invariant.1 c.lowest-call.result e h;
     }
 
 pub loop-k-preserved : goal.loop-k-preserved

@@ -22,8 +22,8 @@ release_step-requires c =
       waiting_len = c.requires.waiting_len;
       words = c.requires.words;
       by_index = subst
-                  (λ d. (k : ℕ) → into (shape_of c.args.table.now) (only d) k ≤ get_or
-                  c.args.waiting.now k 0) (sym e) c.requires.by_index;
+          (λ d. (k : ℕ) → into (shape_of c.args.table.now) (only d) k ≤ get_or
+          c.args.waiting.now k 0) (sym e) c.requires.by_index;
     }
 
 pub release_get-requires : goal.release_get-requires
@@ -41,8 +41,8 @@ release_get-requires c =
       waiting_len = c.requires.waiting_len;
       words = c.requires.words;
       by_index = subst
-                  (λ d. (k : ℕ) → into (shape_of c.args.table.now) (only d) k ≤ get_or
-                  c.args.waiting.now k 0) (sym e) c.requires.by_index;
+          (λ d. (k : ℕ) → into (shape_of c.args.table.now) (only d) k ≤ get_or
+          c.args.waiting.now k 0) (sym e) c.requires.by_index;
     }
 
 pub release_set-requires : goal.release_set-requires
@@ -60,8 +60,8 @@ release_set-requires c =
       waiting_len = c.requires.waiting_len;
       words = c.requires.words;
       by_index = subst
-                  (λ d. (k : ℕ) → into (shape_of c.args.table.now) (only d) k ≤ get_or
-                  c.args.waiting.now k 0) (sym e) c.requires.by_index;
+          (λ d. (k : ℕ) → into (shape_of c.args.table.now) (only d) k ≤ get_or
+          c.args.waiting.now k 0) (sym e) c.requires.by_index;
     }
 
 pub returns-in-Step : goal.returns-in-Step

@@ -22,15 +22,15 @@ lower_row-requires c =
       words = c.requires.words;
       blocks_bound = omega arith;
       within = get_sets c.args.table.now c.requires.sound c.args.output c.input_sources.result.now
-      c.args.mask.now c.input_sources.ensures
-                c.requires.joined;
+          c.args.mask.now c.input_sources.ensures
+          c.requires.joined;
       keys_bound = omega (arith, e, n, fits c.args.table.now c.requires.sound);
       by_index = (λ k. omega (
-                arith,
-                c.requires.by_index k,
-                hits_readers c.args.table.now c.requires.sound c.args.output _ _
-                c.requires.output_bound e c.input_sources.ensures k,
-              ));
+        arith,
+        c.requires.by_index k,
+        hits_readers c.args.table.now c.requires.sound c.args.output _ _
+            c.requires.output_bound e c.input_sources.ensures k,
+      ));
     }
 
 pub returns : goal.returns

@@ -18,13 +18,18 @@ lower_feeds-requires c =
     record {
       waiting_len = c.requires.waiting_len;
       words = c.requires.words;
-      pairs_len = omega (arith, ap length c.feed_pairs.ensures, long-pairs c.args.table.now
-      c.requires.sound.long, c.feed_count.ensures.value);
+      pairs_len = omega (
+        arith,
+        ap length c.feed_pairs.ensures,
+        long-pairs c.args.table.now
+            c.requires.sound.long,
+        c.feed_count.ensures.value,
+      );
       blocks_bound = omega arith;
       within = set-gets c.args.table.now c.requires.sound c.args.input _ _ c.args.mask.now
-      c.feed_count.ensures.value c.feed_pairs.ensures c.requires.joined;
+          c.feed_count.ensures.value c.feed_pairs.ensures c.requires.joined;
       by_index = fed-fits c.args.table.now c.requires.sound _ _ _ c.unit_count.ensures.value
-      c.feed_count.ensures.value c.feed_pairs.ensures;
+          c.feed_count.ensures.value c.feed_pairs.ensures;
       by_index_2 = (λ k. omega (arith, g k, c.requires.by_index k));
     }
 

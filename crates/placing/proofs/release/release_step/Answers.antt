@@ -22,18 +22,23 @@ lower_row-requires c =
       words = c.requires.words;
       blocks_bound = omega arith;
       within = step_gets c.args.table.now c.requires.sound c.args.unit c.output_owners.result.now
-      c.args.own.now c.output_owners.ensures
-                c.requires.owned;
-      keys_bound = omega (arith, c.unit_count-gets.ensures.value, n, fits c.args.table.now
-      c.requires.sound);
+          c.args.own.now c.output_owners.ensures
+          c.requires.owned;
+      keys_bound = omega (
+        arith,
+        c.unit_count-gets.ensures.value,
+        n,
+        fits c.args.table.now
+            c.requires.sound,
+      );
       by_index = (λ k. omega (
-                arith,
-                c.requires.by_index k,
-                step_gives c.args.table.now c.requires.sound c.args.unit c.unit_count-gets.result
-                    (units c.args.table.now + outputs c.args.table.now) c.output_owners.result.now
-                    (input_owners c.args.table.now) (kinds c.args.table.now) c.requires.unit_bound
-                    c.unit_count-gets.ensures.value refl c.output_owners.ensures refl refl k,
-              ));
+        arith,
+        c.requires.by_index k,
+        step_gives c.args.table.now c.requires.sound c.args.unit c.unit_count-gets.result
+            (units c.args.table.now + outputs c.args.table.now) c.output_owners.result.now
+            (input_owners c.args.table.now) (kinds c.args.table.now) c.requires.unit_bound
+            c.unit_count-gets.ensures.value refl c.output_owners.ensures refl refl k,
+      ));
     }
 
 pub lower_rows-requires : goal.lower_rows-requires
@@ -45,17 +50,17 @@ lower_rows-requires c =
       waiting_len = c.lower_row.ensures.falls.long ∙ c.requires.waiting_len;
       words = c.lower_row.ensures.words;
       others_len = ap length c.input_kinds.ensures ∙ long-kinds c.args.table.now
-      c.requires.sound.long ∙ sym n;
+          c.requires.sound.long ∙ sym n;
       blocks_bound = omega arith;
       within = step-sets c.args.table.now c.requires.sound c.args.unit c.input_owners.result.now
-                  c.input_kinds.result.now c.args.own.now c.input_owners.ensures c.requires.owned;
+          c.input_kinds.result.now c.args.own.now c.input_owners.ensures c.requires.owned;
       keys_bound = omega (arith, e, n, fits c.args.table.now c.requires.sound);
       by_index = lowered-left _ _ _ _ _ _ _
-                    (step_gives c.args.table.now c.requires.sound c.args.unit _ _ _ _ _
-                    c.requires.unit_bound
-                    c.unit_count-gets.ensures.value e c.output_owners.ensures
-                    c.input_owners.ensures c.input_kinds.ensures) c.requires.by_index
-                    c.lower_row.ensures;
+          (step_gives c.args.table.now c.requires.sound c.args.unit _ _ _ _ _
+          c.requires.unit_bound
+          c.unit_count-gets.ensures.value e c.output_owners.ensures
+          c.input_owners.ensures c.input_kinds.ensures) c.requires.by_index
+          c.lower_row.ensures;
     }
 
 pub returns : goal.returns

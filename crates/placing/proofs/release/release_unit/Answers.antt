@@ -35,13 +35,13 @@ lower-requires c =
       waiting_len = c.requires.waiting_len;
       words = c.requires.words;
       call_bound = own-fits c.args.table.now c.requires.sound c.args.input unit
-      c.requires.input_bound o;
+          c.requires.input_bound o;
       nonzero = omega (
-            arith,
-            c.requires.by_index unit,
-            own-some c.args.table.now c.requires.sound c.args.input _ unit k
+        arith,
+        c.requires.by_index unit,
+        own-some c.args.table.now c.requires.sound c.args.input _ unit k
             c.if-kinds-input-eq1.true o,
-          );
+      );
     }
 
 pub returns-then-kinds-input-eq1 : goal.returns-then-kinds-input-eq1

@@ -10,8 +10,13 @@ loop-n-init c =
 
 pub bounds-out-n : goal.bounds-out-n
 bounds-out-n c =
-    omega (arith, c.loop-n.invariant.long, c.loop-n.invariant.few, c.requires.count_in_bounds,
-    c.loop-n-test.true)
+    omega (
+      arith,
+      c.loop-n.invariant.long,
+      c.loop-n.invariant.few,
+      c.requires.count_in_bounds,
+      c.loop-n-test.true,
+    )
 
 pub overflow_cast-c : goal.overflow_cast-c
 overflow_cast-c c =
@@ -20,7 +25,7 @@ overflow_cast-c c =
           omega (
             arith,
             backing_call c.args.bytes.now c.args.count c.args.last c.args.out.now c.loop-n.n
-            c.loop-n.c c.loop-n.out
+                c.loop-n.c c.loop-n.out
                 c.loop-n-test.true c.loop-n.invariant c.requires.count_in_bounds,
           );
     }

@@ -34,23 +34,22 @@ pub bounds-waiting-calls-then-keys-i : goal.bounds-waiting-calls-then-keys-i
 bounds-waiting-calls-then-keys-i c = c.requires.by_index c.loop-i.i c.loop-i-test.true
 
 pub loop-i-preserved : goal.loop-i-preserved
-loop-i-preserved c =
-    (
-      search rules,
-      elim c.if-keys-i.branch [
-      | then-keys-i w ↦
-          rw w.waiting-is
-          (raise_hit (is_key c.args.keys.now c.args.key) (called c.args.calls.now) c.loop-i.i
-          c.loop-i.waiting
-          c.args.waiting.now (eq_true _ _ w.if-keys-i.true)
-          (omega (arith, c.requires.by_index c.loop-i.i c.loop-i-test.true)) c.loop-i.invariant.1)
-      | else-keys-i w ↦
-          rw w.waiting-is
-          (less_miss (is_key c.args.keys.now c.args.key) (called c.args.calls.now) c.loop-i.i
-          c.loop-i.waiting
-          c.args.waiting.now (eq_false _ _ w.if-keys-i.false) c.loop-i.invariant.1)
-    ],
-    )
+loop-i-preserved c = (
+  search rules,
+  elim c.if-keys-i.branch [
+    | then-keys-i w ↦
+        rw w.waiting-is
+        (raise_hit (is_key c.args.keys.now c.args.key) (called c.args.calls.now) c.loop-i.i
+        c.loop-i.waiting
+        c.args.waiting.now (eq_true _ _ w.if-keys-i.true)
+        (omega (arith, c.requires.by_index c.loop-i.i c.loop-i-test.true)) c.loop-i.invariant.1)
+    | else-keys-i w ↦
+        rw w.waiting-is
+        (less_miss (is_key c.args.keys.now c.args.key) (called c.args.calls.now) c.loop-i.i
+        c.loop-i.waiting
+        c.args.waiting.now (eq_false _ _ w.if-keys-i.false) c.loop-i.invariant.1)
+  ],
+)
 
 pub returns : goal.returns
 returns c =

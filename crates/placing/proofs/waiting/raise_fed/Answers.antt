@@ -26,7 +26,7 @@ overflow_add-waiting-in-loop-k c =
       fits = omega (
         arith,
         raise_room each (fed c.args.pairs.now c.args.first) c.loop-k.k c.args.count
-        c.loop-k.waiting
+            c.loop-k.waiting
             c.args.waiting.now c.loop-k-test.true tt c.requires.by_index_2 c.loop-k.invariant.1,
       );
     }
@@ -35,13 +35,12 @@ pub bounds-waiting-first-in-loop-k : goal.bounds-waiting-first-in-loop-k
 bounds-waiting-first-in-loop-k c = c.requires.by_index c.loop-k.k c.loop-k-test.true
 
 pub loop-k-preserved : goal.loop-k-preserved
-loop-k-preserved c =
-    (
-      search rules,
-      raise_hit each (fed c.args.pairs.now c.args.first) c.loop-k.k c.loop-k.waiting
+loop-k-preserved c = (
+  search rules,
+  raise_hit each (fed c.args.pairs.now c.args.first) c.loop-k.k c.loop-k.waiting
       c.args.waiting.now tt
-          (omega (arith, c.requires.by_index c.loop-k.k c.loop-k-test.true)) c.loop-k.invariant.1,
-    )
+      (omega (arith, c.requires.by_index c.loop-k.k c.loop-k-test.true)) c.loop-k.invariant.1,
+)
 
 pub returns : goal.returns
 returns c =

@@ -19,7 +19,7 @@ overflow_add-waiting-then-keys-i c =
       fits = omega (
         arith,
         raise_room (is_key c.args.keys.now c.args.key) (nth c.args.first) c.loop-i.i
-        (length c.args.keys.now)
+            (length c.args.keys.now)
             c.loop-i.waiting c.args.waiting.now c.loop-i-test.true (eq_true _ _ c.if-keys-i.true)
             c.requires.by_index
             c.loop-i.invariant.1,
@@ -27,22 +27,21 @@ overflow_add-waiting-then-keys-i c =
     }
 
 pub loop-i-preserved : goal.loop-i-preserved
-loop-i-preserved c =
-    (
-      search rules,
-      elim c.if-keys-i.branch [
-      | then-keys-i w ↦
-          rw w.waiting-is
-          (raise_hit (is_key c.args.keys.now c.args.key) (nth c.args.first) c.loop-i.i
-          c.loop-i.waiting
-          c.args.waiting.now (eq_true _ _ w.if-keys-i.true) (search rules) c.loop-i.invariant.1)
-      | else-keys-i w ↦
-          rw w.waiting-is
-          (less_miss (is_key c.args.keys.now c.args.key) (nth c.args.first) c.loop-i.i
-          c.loop-i.waiting
-          c.args.waiting.now (eq_false _ _ w.if-keys-i.false) c.loop-i.invariant.1)
-    ],
-    )
+loop-i-preserved c = (
+  search rules,
+  elim c.if-keys-i.branch [
+    | then-keys-i w ↦
+        rw w.waiting-is
+        (raise_hit (is_key c.args.keys.now c.args.key) (nth c.args.first) c.loop-i.i
+        c.loop-i.waiting
+        c.args.waiting.now (eq_true _ _ w.if-keys-i.true) (search rules) c.loop-i.invariant.1)
+    | else-keys-i w ↦
+        rw w.waiting-is
+        (less_miss (is_key c.args.keys.now c.args.key) (nth c.args.first) c.loop-i.i
+        c.loop-i.waiting
+        c.args.waiting.now (eq_false _ _ w.if-keys-i.false) c.loop-i.invariant.1)
+  ],
+)
 
 pub returns : goal.returns
 returns c =

@@ -16,19 +16,18 @@ overflow_add-waiting-in-loop-i c =
       fits = omega (
         arith,
         raise_room each (nth c.args.first) c.loop-i.i c.args.count c.loop-i.waiting
-        c.args.waiting.now
+            c.args.waiting.now
             c.loop-i-test.true tt c.requires.by_index c.loop-i.invariant.1,
       );
     }
 
 pub loop-i-preserved : goal.loop-i-preserved
-loop-i-preserved c =
-    (
-      search rules,
-      raise_hit each (nth c.args.first) c.loop-i.i c.loop-i.waiting c.args.waiting.now tt
+loop-i-preserved c = (
+  search rules,
+  raise_hit each (nth c.args.first) c.loop-i.i c.loop-i.waiting c.args.waiting.now tt
       (search rules)
-          c.loop-i.invariant.1,
-    )
+      c.loop-i.invariant.1,
+)
 
 pub returns : goal.returns
 returns c =

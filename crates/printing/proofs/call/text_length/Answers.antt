@@ -12,9 +12,12 @@ pub field-unit-requires : goal.field-unit-requires
 field-unit-requires c = (c.requires c.if-line-ge3.false, omega arith)
 
 pub entry_length-requires : goal.entry_length-requires
-entry_length-requires c =
-    (omega arith, rw c.field-unit.ensures (word-short _ _ _ (c.requires c.if-line-ge3.false)
-    (omega arith)), omega arith)
+entry_length-requires c = (
+  omega arith,
+  rw c.field-unit.ensures (word-short _ _ _ (c.requires c.if-line-ge3.false)
+      (omega arith)),
+  omega arith,
+)
 
 pub returns-then-line-eq0 : goal.returns-then-line-eq0
 returns-then-line-eq0 c =
@@ -25,12 +28,11 @@ pub field-port-requires : goal.field-port-requires
 field-port-requires c = (c.requires c.if-line-ge3.false, omega arith)
 
 pub entry_length-requires-then-line-eq1 : goal.entry_length-requires-then-line-eq1
-entry_length-requires-then-line-eq1 c =
-    (
-      omega arith,
-      rw c.field-unit.ensures (word-short _ _ _ (c.requires c.if-line-ge3.false) (omega arith)),
-      rw c.field-port.ensures (word-short _ _ _ (c.requires c.if-line-ge3.false) (omega arith)),
-    )
+entry_length-requires-then-line-eq1 c = (
+  omega arith,
+  rw c.field-unit.ensures (word-short _ _ _ (c.requires c.if-line-ge3.false) (omega arith)),
+  rw c.field-port.ensures (word-short _ _ _ (c.requires c.if-line-ge3.false) (omega arith)),
+)
 
 pub returns-then-line-eq1 : goal.returns-then-line-eq1
 returns-then-line-eq1 c =
@@ -39,12 +41,11 @@ returns-then-line-eq1 c =
     c.if-line-eq1.true)
 
 pub entry_length-requires-2 : goal.entry_length-requires-2
-entry_length-requires-2 c =
-    (
-      omega arith,
-      rw c.field-unit.ensures (word-short _ _ _ (c.requires c.if-line-ge3.false) (omega arith)),
-      rw c.field-port.ensures (word-short _ _ _ (c.requires c.if-line-ge3.false) (omega arith)),
-    )
+entry_length-requires-2 c = (
+  omega arith,
+  rw c.field-unit.ensures (word-short _ _ _ (c.requires c.if-line-ge3.false) (omega arith)),
+  rw c.field-port.ensures (word-short _ _ _ (c.requires c.if-line-ge3.false) (omega arith)),
+)
 
 pub returns : goal.returns
 returns c =

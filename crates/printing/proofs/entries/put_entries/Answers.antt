@@ -18,7 +18,7 @@ put_text-end-requires c =
     record {
       text_len_bound = λ h. found-small _ _ _ _ c.requires.indexed _ _ c.line_at-line.ensures h;
       line_in_bounds = same-room _ _ (found_prints _ _ _ _ c.requires.indexed _ _
-      c.line_at-line.ensures _)
+          c.line_at-line.ensures _)
           (writing-room c.loop-i.invariant c.loop-i-test.true c.requires.calls_in_bounds);
     }
 

@@ -19,7 +19,7 @@ step_left-requires c =
     record {
       sound = c.requires.sound;
       unit_bound = subst (λ u. u < units c.args.table.now) (sym o)
-            (c.requires.sound.wired.output-owned c.args.output c.requires.output_bound);
+          (c.requires.sound.wired.output-owned c.args.output c.requires.output_bound);
       table_len_bound = c.requires.table_len_bound;
       low_steps = c.requires.low_steps;
     }

@@ -20,7 +20,7 @@ step_left-requires c =
     record {
       sound = c.requires.sound;
       unit_bound = subst (λ u. u < units c.args.table.now) (sym o)
-      (c.requires.sound.wired.input-owned c.args.input c.requires.input_bound);
+          (c.requires.sound.wired.input-owned c.args.input c.requires.input_bound);
       table_len_bound = c.requires.table_len_bound;
       low_steps = c.requires.low_steps;
     }

@@ -16,7 +16,7 @@ overflow_cast-result c =
       fits = omega (
         arith,
         step-low c.args.table.now c.args.steps.now c.args.unit c.requires.unit_bound
-        c.requires.low_steps,
+            c.requires.low_steps,
         c.requires.sound.counted.inputs-most,
       );
     }

@@ -70,7 +70,7 @@ overflow_cast-output c =
         arith,
         ap (λ l. pair_output l c.loop-k.k) c.feed_pairs-pairs.ensures,
         gets-output c.args.table.now c.requires.sound (has c.args.marks.now) c.loop-k.lows
-        c.loop-k.k more c.loop-k.invariant,
+            c.loop-k.k more c.loop-k.invariant,
       );
     }
 
@@ -86,7 +86,7 @@ bounds-lows-output c =
       arith,
       ap (λ l. pair_output l c.loop-k.k) c.feed_pairs-pairs.ensures,
       gets-output c.args.table.now c.requires.sound (has c.args.marks.now) c.loop-k.lows
-      c.loop-k.k more c.loop-k.invariant,
+          c.loop-k.k more c.loop-k.invariant,
     )
 
 pub overflow_cast-input : goal.overflow_cast-input
@@ -125,7 +125,7 @@ bounds-lows-output-then-not-has c =
       arith,
       ap (λ l. pair_output l c.loop-k.k) c.feed_pairs-pairs.ensures,
       gets-output c.args.table.now c.requires.sound (has c.args.marks.now) c.loop-k.lows
-      c.loop-k.k more c.loop-k.invariant,
+          c.loop-k.k more c.loop-k.invariant,
     )
 
 pub loop-k-smaller-then-not-has : goal.loop-k-smaller-then-not-has

@@ -55,7 +55,8 @@ overflow_add-sets-then-kinds-x-eq1 c =
 
 pub overflow_cast-lows-then-not-has : goal.overflow_cast-lows-then-not-has
 overflow_cast-lows-then-not-has c =
-    record { fits = omega (arith, c.loop-x.invariant.within, c.requires.sound.counted.inputs-most)
+    record {
+      fits = omega (arith, c.loop-x.invariant.within, c.requires.sound.counted.inputs-most);
     }
 
 pub bounds-owners-x : goal.bounds-owners-x
@@ -63,7 +64,7 @@ bounds-owners-x c =
     omega (
       arith,
       ap length c.input_owners-owners.ensures ∙ long_input_owners c.args.table.now
-      c.requires.sound.long,
+          c.requires.sound.long,
       c.loop-x.invariant.within,
       c.loop-x-test.true,
     )
@@ -75,7 +76,7 @@ overflow_cast-lows-then-not-has-2 c =
         arith,
         ap (λ l. get_or l (c.loop-x.x - 1) 0) c.input_owners-owners.ensures,
         steps_owner c.args.table.now c.requires.sound (has c.args.marks.now) c.loop-x.lows
-        c.loop-x.x c.loop-x-test.true
+            c.loop-x.x c.loop-x-test.true
             c.loop-x.invariant,
       );
     }
@@ -86,7 +87,7 @@ bounds-lows-owners c =
       arith,
       ap (λ l. get_or l (c.loop-x.x - 1) 0) c.input_owners-owners.ensures,
       steps_owner c.args.table.now c.requires.sound (has c.args.marks.now) c.loop-x.lows
-      c.loop-x.x c.loop-x-test.true
+          c.loop-x.x c.loop-x-test.true
           c.loop-x.invariant,
     )
 

@@ -35,7 +35,7 @@ pub place-placed-requires : goal.place-placed-requires
 place-placed-requires c =
     record {
       sound = passed-sound c.args.table.now (sym c.first_refusal-number.ensures ∙
-      c.if-number-ne0.false);
+          c.if-number-ne0.false);
       count_value = c.call_count-count.ensures;
       waiting_len = search rules;
       by_index = zeros 224;

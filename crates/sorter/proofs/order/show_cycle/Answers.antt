@@ -47,24 +47,30 @@ overflow_cast-call c =
 
 pub overflow_cast-count : goal.overflow_cast-count
 overflow_cast-count c =
-    record { fits = omega (arith, c.requires.count_value, few-calls c.args.table.now
-    c.requires.sound) }
+    record {
+      fits = omega (
+        arith,
+        c.requires.count_value,
+        few-calls c.args.table.now
+            c.requires.sound,
+      );
+    }
 
 pub write_met-requires : goal.write_met-requires
 write_met-requires c =
     let rest = path_rest c.args.table.now _ _ _ c.walk_back-met.ensures in
     record {
       t = subst (λ l. T (among l c.walk_back-met.result.call)) (sym rest)
-      c.walk_back-met.ensures.again;
+          c.walk_back-met.ensures.again;
       by_index = subst (λ l. (i : ℕ) → i < length l → get_or l i 0 < c.args.count) (sym rest)
-            (λ i h. omega (arith, c.walk_back-met.ensures.calls i h, c.requires.count_value));
+          (λ i h. omega (arith, c.walk_back-met.ensures.calls i h, c.requires.count_value));
       seen_in_bounds = omega (
-          arith,
-          ap length rest,
-          path_few c.args.table.now _ _ _ c.walk_back-met.ensures,
-          c.requires.count_value,
-          c.requires.count_in_bounds,
-        );
+        arith,
+        ap length rest,
+        path_few c.args.table.now _ _ _ c.walk_back-met.ensures,
+        c.requires.count_value,
+        c.requires.count_in_bounds,
+      );
     }
 
 pub returns : goal.returns

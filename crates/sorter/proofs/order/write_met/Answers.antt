@@ -21,14 +21,14 @@ pub write_turned-requires : goal.write_turned-requires
 write_turned-requires c =
     record {
       first_in_bounds = first_in c.args.seen.now c.args.call c.args.count c.requires.t
-      c.requires.by_index _ c.place_of-length.ensures _ _
+          c.requires.by_index _ c.place_of-length.ensures _ _
           c.lowest_of.ensures c.place_of-first.ensures;
       bytes_in_bounds = omega (
         arith,
         met-long c.args.seen.now c.args.call c.args.count c.requires.t c.requires.by_index _
-        c.place_of-length.ensures,
+            c.place_of-length.ensures,
         met-fits c.args.seen.now c.args.call c.args.count c.requires.t c.requires.by_index _
-        c.place_of-length.ensures,
+            c.place_of-length.ensures,
         c.requires.seen_in_bounds,
       );
     }
@@ -37,7 +37,7 @@ pub returns : goal.returns
 returns c =
     record {
       value = turned_long c.args.seen.now c.args.call c.args.count c.requires.t
-      c.requires.by_index _ c.place_of-length.ensures _ _
+          c.requires.by_index _ c.place_of-length.ensures _ _
           c.lowest_of.ensures c.place_of-first.ensures;
       out_after = c.write_turned.ensures
           ∙ ap (λ l. fronted l c.args.out.now)

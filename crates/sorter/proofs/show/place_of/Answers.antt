@@ -21,13 +21,12 @@ returns-then-bytes-i c =
     (eq_true _ _ c.if-bytes-i.true)
 
 pub loop-i-preserved : goal.loop-i-preserved
-loop-i-preserved c =
-    (
-      search rules,
-      below_more (λ k. T (not (is_key c.args.bytes.now c.args.byte k))) c.loop-i.i
+loop-i-preserved c = (
+  search rules,
+  below_more (λ k. T (not (is_key c.args.bytes.now c.args.byte k))) c.loop-i.i
       c.loop-i.invariant.1
-          (eq_false _ _ c.if-bytes-i.false),
-    )
+      (eq_false _ _ c.if-bytes-i.false),
+)
 
 pub returns : goal.returns
 returns c =

@@ -17,8 +17,8 @@ bounds-bytes-from c =
     c.if-from-bytes.from c.loop-to.to c.requires.first_in_bounds
     c.requires.bytes_in_bounds c.loop-to-test.true
     (elim c.if-from-bytes.branch [
-    | then-from-bytes w ↦ inl (w.if-from-bytes.true, w.from-is)
-    | else-from-bytes w ↦ inr (w.if-from-bytes.false, w.from-is)
+      | then-from-bytes w ↦ inl (w.if-from-bytes.true, w.from-is)
+      | else-from-bytes w ↦ inr (w.if-from-bytes.false, w.from-is)
     ])
     c.loop-to.invariant).0
 
@@ -32,8 +32,8 @@ overflow_add-from c =
     c.if-from-bytes.from c.loop-to.to c.requires.first_in_bounds
     c.requires.bytes_in_bounds c.loop-to-test.true
     (elim c.if-from-bytes.branch [
-    | then-from-bytes w ↦ inl (w.if-from-bytes.true, w.from-is)
-    | else-from-bytes w ↦ inr (w.if-from-bytes.false, w.from-is)
+      | then-from-bytes w ↦ inl (w.if-from-bytes.true, w.from-is)
+      | else-from-bytes w ↦ inr (w.if-from-bytes.false, w.from-is)
     ])
     c.loop-to.invariant).0 in
     search rules
@@ -44,8 +44,8 @@ loop-to-preserved c =
     c.if-from-bytes.from c.loop-to.to c.requires.first_in_bounds
     c.requires.bytes_in_bounds c.loop-to-test.true
     (elim c.if-from-bytes.branch [
-    | then-from-bytes w ↦ inl (w.if-from-bytes.true, w.from-is)
-    | else-from-bytes w ↦ inr (w.if-from-bytes.false, w.from-is)
+      | then-from-bytes w ↦ inl (w.if-from-bytes.true, w.from-is)
+      | else-from-bytes w ↦ inr (w.if-from-bytes.false, w.from-is)
     ])
     c.loop-to.invariant).1
 

@@ -24,8 +24,7 @@ returns-then-not-has c =
 
 pub loop-c-preserved : goal.loop-c-preserved
 loop-c-preserved c =
-    let has' = c.has in
-    (
+    let has' = c.has in (
       search rules,
       below_more (λ k. T (not (not (has c.args.marks.now k)))) c.loop-c.c c.loop-c.invariant.1
           (twice (has c.args.marks.now c.loop-c.c) (says has'.ensures

@@ -27,12 +27,12 @@ walk-noted-requires c =
       ended = c.check-checked.ensures.ended c.if-bad-ne0.false;
       places_len = c.requires;
       a_in_bounds = omega (
-          arith,
-          c.wide.ensures,
-          (told-fields _ _ _ (c.check-checked.ensures.ended c.if-bad-ne0.false)
-              (c.check-checked.ensures.ended c.if-bad-ne0.false).some
-              c.fields_at-fields.ensures).inside,
-        );
+        arith,
+        c.wide.ensures,
+        (told-fields _ _ _ (c.check-checked.ensures.ended c.if-bad-ne0.false)
+            (c.check-checked.ensures.ended c.if-bad-ne0.false).some
+            c.fields_at-fields.ensures).inside,
+      );
     }
 
 pub returns-then-number-ne0 : goal.returns-then-number-ne0

@@ -27,8 +27,12 @@ slice_bounds-line_ends-end c = sym (length-take-le _ _ (omega arith))
 
 pub overflow_add-result-then-bad-size : goal.overflow_add-result-then-bad-size
 overflow_add-result-then-bad-size c =
-    omega (arith, c.line_ends-then-bad-size.ensures, times-part lf c.first_bad-bad.result
-    c.args.text.now (omega arith))
+    omega (
+      arith,
+      c.line_ends-then-bad-size.ensures,
+      times-part lf c.first_bad-bad.result
+          c.args.text.now (omega arith),
+    )
 
 pub returns-then-bad-size : goal.returns-then-bad-size
 returns-then-bad-size c =
