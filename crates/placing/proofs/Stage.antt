@@ -286,8 +286,8 @@ module _ (t : List ℕ) (ok : Sound t) (l counts bits : List ℕ) (last : ℕ)
       | inr z ↦ omega (arith, to-left x z, there x (add-not c (among l) x z).0)
     ]
 
-    module _ (low after' : List ℕ)
-        (w : Lowered (into (shape_of t) (only c)) (set counts c last) low (drop bits c) after') where
+    module _ (low next : List ℕ)
+        (w : Lowered (into (shape_of t) (only c)) (set counts c last) low (drop bits c) next) where
       -- what stays placed keeps its byte
       placed-low : (x : ℕ) → T (add c (among l) x)
           → get_or low x 0 ≡ get_or (set counts c last) x 0
@@ -305,7 +305,7 @@ module _ (t : List ℕ) (ok : Sound t) (l counts bits : List ℕ) (last : ℕ)
       dropped : (x : ℕ) → has (drop bits c) x ≡ without c (has bits) x
       dropped x = ap (λ q. q x) (drop-has bits c small g.waiting.words)
 
-      bits-placed : (x : ℕ) → T (add c (among l) x) → has after' x ≡ false
+      bits-placed : (x : ℕ) → T (add c (among l) x) → has next x ≡ false
       unfolding waits
       bits-placed x z =
           w.freed x
@@ -319,7 +319,7 @@ module _ (t : List ℕ) (ok : Sound t) (l counts bits : List ℕ) (last : ℕ)
               (and-false (not (eqb x c)))
 
       bits_left : (x : ℕ) → T (not (add c (among l) x))
-          → has after' x ≡ (ltb x (call_count t) && eqb (get_or low x 0) 0)
+          → has next x ≡ (ltb x (call_count t) && eqb (get_or low x 0) 0)
       unfolding waits
       bits_left x z =
           let (ne, n) = add-not c (among l) x z in
@@ -349,7 +349,7 @@ module _ (t : List ℕ) (ok : Sound t) (l counts bits : List ℕ) (last : ℕ)
               ) in
               ap (λ k. eqb k 0) same
 
-      waiting_on : Waiting (shape_of t) (add c (among l)) low after'
+      waiting_on : Waiting (shape_of t) (add c (among l)) low next
       unfolding waits
       waiting_on = record {
         long = w.falls.long ∙ stage_long;
@@ -365,7 +365,7 @@ module _ (t : List ℕ) (ok : Sound t) (l counts bits : List ℕ) (last : ℕ)
         ];
       }
 
-      pub stage_on : length l < call_count t → Stage t (l ++ (c ∷ [])) low after' c
+      pub stage_on : length l < call_count t → Stage t (l ++ (c ∷ [])) low next c
       stage_on room =
           let members = among-end l c in
           let more : length (l ++ (c ∷ [])) ≡ suc (length l) =

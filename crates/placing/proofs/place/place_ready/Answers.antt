@@ -1,7 +1,7 @@
 -- What is placed is the front of `placed_of`; `stage_on` carries the loop, `stage_stands` ends it.
 use native.Mathlib.Omega.{arith}
 use mathlib.Core.Path.{◌≡◌, refl, ap, sym, ◌∙◌}
-use mathlib.Core.List.{◌∷◌, ◌++◌}
+use mathlib.Core.List.{[], ◌∷◌, ◌++◌}
 use Prim.Native.Nat.{◌+◌, ◌-◌, ◌<◌}
 use lib.ListN.{length, take, length-append}
 use Rattle.table.specs.Packed.{shape_of}

@@ -1,4 +1,5 @@
 -- What is printed of a line goes by its kind.
+use mathlib.Core.List.{[]}
 use native.Mathlib.Omega.{arith}
 use Rattle.pen.specs.Chain.{wrote-long}
 use Rattle.printing.proofs.Declares.{text_step, text_get, text-set}

@@ -1,4 +1,5 @@
 -- What is printed of a line goes by its kind; a name is no longer than the text.
+use mathlib.Core.List.{[]}
 use mathlib.Core.Path.{sym, ap, ◌∙◌}
 use lib.ListN.{length}
 use native.Mathlib.Omega.{arith}
