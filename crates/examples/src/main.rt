@@ -12,13 +12,15 @@ mod tables;
 mod taken;
 mod texts;
 
-fn main() {
-    checked::all();
-    preceding::all();
-    ordered::all();
-    judged::all();
-    records::all();
-    taken::all();
-    exported::all();
-    texts::all();
+use std::io;
+
+fn main(rt: HostRuntime) -> io::Result<()> {
+    checked::all(&rt)?;
+    preceding::all(&rt)?;
+    ordered::all(&rt)?;
+    judged::all(&rt)?;
+    records::all(&rt)?;
+    taken::all(&rt)?;
+    exported::all(&rt)?;
+    texts::all(&rt)
 }

@@ -5,62 +5,63 @@ use crate::tables::{
 };
 use placing::place::place_all;
 use sorter::order::order;
+use std::io;
 
 // The order or the cycle, with more room than it takes.
-fn order_of(name: &[u8], table: &[u8]) {
+fn order_of(rt: &impl Print, name: &[u8], table: &[u8]) -> io::Result<()> {
     let mut buffer = [99u8; 9];
     let answer = order(table, &mut buffer);
-    leaves(b"order of ", name, answer, &buffer);
+    leaves(rt, b"order of ", name, answer, &buffer)
 }
 
 // The same with a buffer of five bytes.
-fn five_for(name: &[u8], table: &[u8]) {
+fn five_for(rt: &impl Print, name: &[u8], table: &[u8]) -> io::Result<()> {
     let mut buffer = [99u8; 5];
     let answer = order(table, &mut buffer);
-    leaves(b"order of ", name, answer, &buffer);
+    leaves(rt, b"order of ", name, answer, &buffer)
 }
 
 // All calls that can be placed.
-fn placed_of(name: &[u8], table: &[u8]) {
+fn placed_of(rt: &impl Print, name: &[u8], table: &[u8]) -> io::Result<()> {
     let mut buffer = [99u8; 8];
     let answer = place_all(table, &mut buffer);
-    leaves(b"place_all of ", name, answer, &buffer);
+    leaves(rt, b"place_all of ", name, answer, &buffer)
 }
 
 // Those of SPECIFICATION, Examples.
-fn document() {
-    order_of(b"A", &A);
-    order_of(b"A, both reactive", &A_REACTIVE);
-    order_of(b"C", &C);
-    order_of(b"C, feeds (0,0) (1,1)", &c_fed(0, 0, 1, 1));
-    order_of(b"G", &G);
-    order_of(b"one unit", &ALONE);
-    order_of(b"a unit joined to itself, delayed", &itself(0));
-    order_of(b"a unit joined to itself, reactive", &itself(1));
-    five_for(b"A in five bytes", &A);
+fn document(rt: &impl Print) -> io::Result<()> {
+    order_of(rt, b"A", &A)?;
+    order_of(rt, b"A, both reactive", &A_REACTIVE)?;
+    order_of(rt, b"C", &C)?;
+    order_of(rt, b"C, feeds (0,0) (1,1)", &c_fed(0, 0, 1, 1))?;
+    order_of(rt, b"G", &G)?;
+    order_of(rt, b"one unit", &ALONE)?;
+    order_of(rt, b"a unit joined to itself, delayed", &itself(0))?;
+    order_of(rt, b"a unit joined to itself, reactive", &itself(1))?;
+    five_for(rt, b"A in five bytes", &A)
 }
 
 // Those of its readings, and others.
-fn others() {
-    order_of(b"a call that waits behind a cycle", &BEHIND);
-    order_of(b"calls beside a cycle", &BESIDE);
-    order_of(b"a second output fed", &SECOND_FED);
-    order_of(b"A, input 0 of kind 2", &a_with(8, 2));
-    five_for(b"a cycle of four in five bytes", &c_fed(0, 0, 1, 1));
+fn others(rt: &impl Print) -> io::Result<()> {
+    order_of(rt, b"a call that waits behind a cycle", &BEHIND)?;
+    order_of(rt, b"calls beside a cycle", &BESIDE)?;
+    order_of(rt, b"a second output fed", &SECOND_FED)?;
+    order_of(rt, b"A, input 0 of kind 2", &a_with(8, 2))?;
+    five_for(rt, b"a cycle of four in five bytes", &c_fed(0, 0, 1, 1))
 }
 
-fn placed() {
-    placed_of(b"A", &A);
-    placed_of(b"G", &G);
-    placed_of(b"calls beside a cycle", &BESIDE);
-    placed_of(b"A, input 0 of kind 2", &a_with(8, 2));
+fn placed(rt: &impl Print) -> io::Result<()> {
+    placed_of(rt, b"A", &A)?;
+    placed_of(rt, b"G", &G)?;
+    placed_of(rt, b"calls beside a cycle", &BESIDE)?;
+    placed_of(rt, b"A, input 0 of kind 2", &a_with(8, 2))?;
     let mut five = [99u8; 5];
     let answer = place_all(&A, &mut five);
-    leaves(b"place_all of ", b"A in five bytes", answer, &five);
+    leaves(rt, b"place_all of ", b"A in five bytes", answer, &five)
 }
 
-pub fn all() {
-    document();
-    others();
-    placed();
+pub fn all(rt: &impl Print) -> io::Result<()> {
+    document(rt)?;
+    others(rt)?;
+    placed(rt)
 }

@@ -2,6 +2,7 @@
 use crate::shown::{put_name, write_line};
 use crate::tables::{A, C, G, SECOND_FED, itself};
 use calls::precedence::precedes;
+use std::io;
 
 // A pair of calls where the first precedes the second, a space before it.
 fn put_pair(line: &mut [u8], at: usize, table: &[u8], first: usize, second: usize) -> usize {
@@ -25,18 +26,18 @@ fn put_pairs(line: &mut [u8], at: usize, table: &[u8]) -> usize {
     end
 }
 
-fn pairs(name: &[u8], table: &[u8]) {
+fn pairs(rt: &impl Print, name: &[u8], table: &[u8]) -> io::Result<()> {
     let mut line = [0u8; 120];
     let mut at = put_name(&mut line, b"precedence of ", name);
     at = put_pairs(&mut line, at, table);
-    write_line(&mut line, at);
+    write_line(rt, &mut line, at)
 }
 
-pub fn all() {
-    pairs(b"A:", &A);
-    pairs(b"C:", &C);
-    pairs(b"G:", &G);
-    pairs(b"a unit joined to itself, delayed:", &itself(0));
-    pairs(b"a unit joined to itself, reactive:", &itself(1));
-    pairs(b"a second output fed:", &SECOND_FED);
+pub fn all(rt: &impl Print) -> io::Result<()> {
+    pairs(rt, b"A:", &A)?;
+    pairs(rt, b"C:", &C)?;
+    pairs(rt, b"G:", &G)?;
+    pairs(rt, b"a unit joined to itself, delayed:", &itself(0))?;
+    pairs(rt, b"a unit joined to itself, reactive:", &itself(1))?;
+    pairs(rt, b"a second output fed:", &SECOND_FED)
 }

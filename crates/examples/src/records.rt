@@ -7,6 +7,7 @@ ghost use Rattle.judge.specs.Records.{all_numbered};
 use crate::shown::gives;
 use crate::tables::{A, C, G};
 use judge::records::{Record, verdict_of_records};
+use std::io;
 use table::Answer;
 
 // The step of a unit, as a record.
@@ -42,21 +43,22 @@ fn verdict_on(table: &[u8], records: [Record; 6]) -> Answer
 }
 
 // Lists on A, C and G, of six records each; what stands behind a refusal is not looked at.
-pub fn all() {
+pub fn all(rt: &impl Print) -> io::Result<()> {
     let order = [step(0), get(0), set(1), step(1), get(1), set(0)];
-    gives(b"records on ", b"A: 0 2 5 1 3 4", verdict_on(&A, order));
-    gives(b"records on ", b"C: 0 2 5 1", verdict_on(&C, order));
+    gives(rt, b"records on ", b"A: 0 2 5 1 3 4", verdict_on(&A, order))?;
+    gives(rt, b"records on ", b"C: 0 2 5 1", verdict_on(&C, order))?;
     let no_unit = [step(2), get(0), set(1), step(1), get(1), set(0)];
-    gives(b"records on ", b"A: step 2", verdict_on(&A, no_unit));
+    gives(rt, b"records on ", b"A: step 2", verdict_on(&A, no_unit))?;
     let third = Record { kind: 3, number: 0 };
     let no_kind = [step(0), third, set(1), step(1), get(1), set(0)];
     gives(
+        rt,
         b"records on ",
         b"A: 0, then kind 3",
         verdict_on(&A, no_kind),
-    );
+    )?;
     let unset = [step(0), step(1), get(0), set(1), get(1), set(0)];
-    gives(b"records on ", b"A: 0 1", verdict_on(&A, unset));
+    gives(rt, b"records on ", b"A: 0 1", verdict_on(&A, unset))?;
     let unfed = [step(0), step(1), get(1), set(0), get(0), set(1)];
-    gives(b"records on ", b"G: 0 1 3", verdict_on(&G, unfed));
+    gives(rt, b"records on ", b"G: 0 1 3", verdict_on(&G, unfed))
 }

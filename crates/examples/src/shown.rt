@@ -1,4 +1,5 @@
 // The lines that are printed, one for each example.
+use std::io;
 use table::Answer;
 use table::parts::{byte, stretch};
 
@@ -40,24 +41,30 @@ pub fn put_left(line: &mut [u8], at: usize, buffer: &[u8]) -> usize {
 }
 
 // Ends the line and writes it to standard output.
-pub fn write_line(line: &mut [u8], at: usize) {
+pub fn write_line(rt: &impl Print, line: &mut [u8], at: usize) -> io::Result<()> {
     let end = pen::put_byte(line, at, 10);
-    io::write_all(1, stretch(line, 0, end));
+    rt.write_all(stretch(line, 0, end))
 }
 
 // A call and its answer.
-pub fn gives(called: &[u8], name: &[u8], answer: Answer) {
+pub fn gives(rt: &impl Print, called: &[u8], name: &[u8], answer: Answer) -> io::Result<()> {
     let mut line = [0u8; 120];
     let mut at = put_name(&mut line, called, name);
     at = put_answer(&mut line, at, answer);
-    write_line(&mut line, at);
+    write_line(rt, &mut line, at)
 }
 
 // The same, with the buffer that was lent.
-pub fn leaves(called: &[u8], name: &[u8], answer: Answer, buffer: &[u8]) {
+pub fn leaves(
+    rt: &impl Print,
+    called: &[u8],
+    name: &[u8],
+    answer: Answer,
+    buffer: &[u8],
+) -> io::Result<()> {
     let mut line = [0u8; 120];
     let mut at = put_name(&mut line, called, name);
     at = put_answer(&mut line, at, answer);
     at = put_left(&mut line, at, buffer);
-    write_line(&mut line, at);
+    write_line(rt, &mut line, at)
 }

@@ -1,6 +1,7 @@
 // What C calls on texts: table A's, refused ones, and buffers that are too small.
 use crate::shown::{gives, leaves};
 use desk::{Reading, oorlichday_list, oorlichday_read};
+use std::io;
 use table::Answer;
 use table::parts::stretch;
 
@@ -13,39 +14,41 @@ fn answered(reading: Reading) -> Answer {
 }
 
 // A text read into a buffer of 14 bytes, lent full of 99.
-fn read(name: &[u8], text: &[u8]) {
+fn read(rt: &impl Print, name: &[u8], text: &[u8]) -> io::Result<()> {
     let mut buffer = [99u8; 14];
     let reading = oorlichday_read(text, &mut buffer);
-    leaves(b"oorlichday_read of ", name, answered(reading), &buffer);
+    leaves(rt, b"oorlichday_read of ", name, answered(reading), &buffer)
 }
 
 // What is listed of a text in a buffer of 104 bytes, lent full of dots.
-fn list(name: &[u8], text: &[u8]) {
+fn list(rt: &impl Print, name: &[u8], text: &[u8]) -> io::Result<()> {
     let mut buffer = [46u8; 104];
     let reading = oorlichday_list(text, &mut buffer);
-    gives(b"oorlichday_list of ", name, answered(reading));
-    io::write_all(1, &buffer);
-    io::write_all(1, b"\n");
+    gives(rt, b"oorlichday_list of ", name, answered(reading))?;
+    rt.write_all(&buffer)?;
+    rt.write_all(b"\n")
 }
 
 // The same with buffers of 11 bytes.
-fn in_eleven(name: &[u8], text: &[u8]) {
+fn in_eleven(rt: &impl Print, name: &[u8], text: &[u8]) -> io::Result<()> {
     let mut table = [99u8; 11];
     let mut reading = oorlichday_read(text, &mut table);
     leaves(
+        rt,
         b"oorlichday_read in 11 bytes of ",
         name,
         answered(reading),
         &table,
-    );
+    )?;
     let mut listing = [99u8; 11];
     reading = oorlichday_list(text, &mut listing);
     leaves(
+        rt,
         b"oorlichday_list in 11 bytes of ",
         name,
         answered(reading),
         &listing,
-    );
+    )
 }
 
 // Table A's text at the front of a buffer; gives its length.
@@ -65,20 +68,20 @@ fn put_text(text: &mut [u8]) -> usize {
 }
 
 // A name declared twice.
-fn twice(text: &[u8]) {
-    read(b"a unit twice", text);
-    list(b"a unit twice", text);
+fn twice(rt: &impl Print, text: &[u8]) -> io::Result<()> {
+    read(rt, b"a unit twice", text)?;
+    list(rt, b"a unit twice", text)
 }
 
-pub fn all() {
+pub fn all(rt: &impl Print) -> io::Result<()> {
     let mut text = [0u8; 200];
     let length = put_text(&mut text);
     let a_text = stretch(&text, 0, length);
-    read(b"table A's text", a_text);
-    list(b"table A's text", a_text);
-    in_eleven(b"table A's text", a_text);
-    twice(b"cosim\t1\nunit\tpump\nunit\tpump\n");
+    read(rt, b"table A's text", a_text)?;
+    list(rt, b"table A's text", a_text)?;
+    in_eleven(rt, b"table A's text", a_text)?;
+    twice(rt, b"cosim\t1\nunit\tpump\nunit\tpump\n")?;
     let mut lines = [10u8; 300];
     lines[299] = 97;
-    read(b"300 lines, the last not ended", &lines);
+    read(rt, b"300 lines, the last not ended", &lines)
 }
