@@ -152,6 +152,8 @@ def main():
             functions.append((crate, path))
             if lacking(crate, path, text):
                 failed.append(f"{crate}: {'.'.join(path)} is not stated in Settled.antt")
+            if crate.endswith("_c") and stored(crate, path)[1] != stored(crate[:-2], path)[1]:
+                failed.append(f"{crate}: {'.'.join(path)} promises something else than that of {crate[:-2]}")
     asking = {"::".join((crate, *path)) for crate, path in functions if asks(crate, path)}
     failed += [f"docs/PROMISES.md lists {name} as asking, or the function asks: only one of the two"
                for name in sorted(asking ^ set(listed()))]
