@@ -26,12 +26,14 @@ def counted():
 
 def theorems():
     """For each theorem that the page names: its file and its statement, or nothing where no file has it."""
-    public, code = {}, "".join(path.read_text(encoding="utf-8") for path in CRATES.glob("*/src/*.rt"))
+    public, others = {}, {name for row in rows() for name in row.named}
     for path in CRATES.glob("*/specs/*.antt"):
         public |= {d.name: (path, d) for d in defined(path) if d.lines[0].strip().startswith("pub ")}
-    functions = set(re.findall(r"\bfn (\w+)", code)) - set(public)
-    listed = {name for row in rows() for name in row.named}
-    for name in sorted(set(re.findall(r"`([a-z]+(?:[-_]\w+)+)`", PAGE)) - functions - listed):
+        for listed in re.findall(r"use Rattle\.std\.[\w.]+\.\{([^}]*)\}", path.read_text(encoding="utf-8")):
+            others |= set(re.findall(r"\w+", listed))
+    for path in CRATES.glob("*/src/*.rt"):
+        others |= set(re.findall(r"\bfn (\w+)", path.read_text(encoding="utf-8"))) - set(public)
+    for name in sorted(set(re.findall(r"`([a-z]+(?:[-_]\w+)+)`", PAGE)) - others):
         path, theorem = public.get(name, (None, None))
         yield path, name, theorem and theorem.statement()
 

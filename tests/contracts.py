@@ -2,8 +2,9 @@
 """Holds the contracts of the public functions, as the toolchain stored them beside each proved crate:
 crates/NAME/proofs/Settled.antt states of each that it settles a call, and docs/CONTRACTS.md quotes each clause.
 One that asks something of its caller is stated to settle a call where that holds, and docs/PROMISES.md lists it.
+Of a static library nothing is stored: its contracts are read from its source.
 `tests/contracts.py --write` writes the page."""
-import json
+import functools
 import re
 import sys
 from pathlib import Path
@@ -13,23 +14,33 @@ PAGE = ROOT / "docs/CONTRACTS.md"
 PROMISES = ROOT / "docs/PROMISES.md"
 HEADING = """# The contract of each public function
 
-Public is whatever another crate or C can call. Each clause is quoted as the toolchain read it, with the definitions it cites; the page is written by `tests/contracts.py --write` and held to the proved crates by the gate. `crates/NAME/proofs/Settled.antt` proves of each contract that it asks nothing and permits one answer, with every lent byte; of the few that ask something, that they permit one answer where it holds. [PROMISES.md](PROMISES.md) says each in words, and lists those that ask.
+Public is whatever another crate or C can call. Each clause is quoted as the toolchain stored it beside the proved crate (it stores nothing of an archive, `firmware_c` and `desk_c`: these as they stand in the source), with the definitions it cites; the page is written by `tests/contracts.py --write` and held to the proved crates by the gate. `crates/NAME/proofs/Settled.antt` proves of each contract that it asks nothing and permits one answer, with every lent byte; of the few that ask something, that they permit one answer where it holds. [PROMISES.md](PROMISES.md) says each in words, and lists those that ask.
 """
 
 
 def crates():
-    """The listed crates that are libraries with functions, in the list's order."""
+    """The listed crates that are libraries with functions, in the list's order, and whether each is static."""
     for line in (ROOT / "crates.txt").read_text(encoding="utf-8").splitlines():
-        crate = line.partition("#")[0].partition(":")[0].strip()
-        if crate and (ROOT / f"crates/{crate}/src/lib.rt").exists():
-            yield crate
+        words = line.partition("#")[0].partition(":")[0].split()
+        if words and (ROOT / f"crates/{words[0]}/src/lib.rt").exists():
+            yield words[0], "staticlib" in words
+
+
+def signature(crate, function):
+    """Where the contracts of a crate stand, and a pattern of a function with them: as stored, or in the source."""
+    if dict(crates())[crate]:
+        return ROOT / f"crates/{crate}/src", rf"\bfn {function}\(.*?\n *{{$"
+    top = ROOT / f"crates/{crate}/out/rlib/{crate}.rlib/lang/src"
+    if not top.exists():
+        sys.exit(f"{crate} is not proved yet: run rt ci, or rt lib in its folder\n0 passed, 1 failed")
+    return top, rf"\bfn {function} \(.*? ;$"
 
 
 def public_functions(crate):
     """The paths of the functions that another crate or C can call."""
-    top = ROOT / f"target/rlib/{crate}.rlib/interface/lang/src"
-    if not top.exists():
-        sys.exit(f"{crate} is not proved yet: run rt check\n0 passed, 1 failed")
+    top, _ = signature(crate, "")
+    public = top.parents[1] / "interface/lang/src"  # without the modules and functions that are the crate's own
+    top = public if public.exists() else top
     for file in sorted(top.rglob("*.rt")):
         module, owner = file.relative_to(top).with_suffix("").parts, ()
         for line in file.read_text(encoding="utf-8").splitlines():
@@ -43,34 +54,40 @@ def public_functions(crate):
 
 def lacking(crate, path, text):
     """What a crate's file does not state of a function, to the end of the line."""
-    base = re.escape(f"use Rattle·{crate}·proofs.proofs.{'.'.join(path)}")
-    if whole := re.search(rf"^{base} as ([\w-]+)$", text, re.M):
-        name = re.escape(whole[1])
-        wanted = [rf"^pub {name}-settled : SettlesClauses {name}\.ended \(λ m\. {name}\.clauses [^→]*\)$"]
-    elif kinds := re.search(rf"^{base}\.Kinds as ([\w-]+)$", text, re.M):
-        name = re.escape(kinds[1])
-        at = rf"{name}\.ps {name}\.r {name}-says\.Asked {name}-says\.Learnt"
-        settled = rf"(Settles {at}|SettlesSeen {at} \(λ κs r\. now r\))"
+    base = re.escape(".".join(path))
+    says = re.search(rf"^use Rattle\.{crate}\.proofs\.{base}\.Reads as ([\w-]+)$", text, re.M)
+    if whole := re.search(rf"^use Rattle\.{crate}\.specs\.contracts\.{base} as ([\w-]+)$", text, re.M):
+        name = whole[1]
+        settled = rf"SettlesClauses {name}\.ended \(λ m\. {name}\.clauses [^→]*\)"
+    elif says and (kinds := re.search(rf"^use Rattle\.{crate}\.proofs\.{base}\.Kinds as ([\w-]+)$", text, re.M)):
+        name = kinds[1]
+        at = rf"{name}\.ps {name}\.r {says[1]}\.Asked {says[1]}\.Learnt"
+        settled = rf"(Settles {at}|SettlesSeen {at} \(λ κs r\. r\.now\))"
         if asks(crate, path):
             settled = rf"SettlesWhere {at} {seen(crate, path)}"
-        wanted = [rf"^{base}\.Reads as {name}-says$", rf"^pub {name}-settled : {settled}$"]
     else:
         return True
-    return not all(re.search(pattern, text, re.M) for pattern in wanted)
+    stated = re.sub("[-_]", "[-_]", name)  # the statement's name has dashes or none
+    return not re.search(rf"^pub {stated}[-_]settled : {settled}$", text, re.M)
 
 
+@functools.lru_cache(None)
 def stored(crate, path):
-    """The contract of a function as the toolchain stored it."""
-    file = ROOT / f"target/rlib/{crate}.rlib/lang/antt/proofs" / "/".join(path)
-    contract = json.loads(file.with_suffix(".json").read_text(encoding="utf-8"))
-    while "ensures" not in contract:
-        contract = next(part for part in contract.values() if isinstance(part, dict))
-    return contract
+    """The contract of a function as the toolchain stored it: what it brings in, and its clauses."""
+    top, pattern = signature(crate, path[-1])
+    modules = [part for part in path[:-1] if part[0].islower()] or ["lib"]
+    owner = next((part for part in path[:-1] if part[0].isupper()), None)
+    text = top.joinpath(*modules).with_suffix(".rt").read_text(encoding="utf-8")
+    block = re.compile(rf"^impl {owner or '.*'} {{$.*?^}}$", re.M | re.S)
+    found = re.search(pattern, block.search(text)[0] if owner else block.sub("", text), re.M | re.S)[0]
+    clauses = re.split(r"\n +(?=requires |ensures )", re.sub(r"(\n *{| ;)$", "", found))[1:]
+    uses = re.findall(r"^ghost use ([^;]*);", text, re.M)
+    return [" ".join(use.split()) for use in uses], [" ".join(clause.split()) for clause in clauses]
 
 
 def asks(crate, path):
     """Whether a function asks something of its caller."""
-    return bool(stored(crate, path)["requires"])
+    return any(clause.startswith("requires ") for clause in stored(crate, path)[1])
 
 
 def listed():
@@ -84,38 +101,36 @@ def seen(crate, path):
     """What of an answer is stated to be one: all of it, the bytes of a part, or the fields that are not listed as left open."""
     left = listed().get("::".join((crate, *path)), [])
     if not left:
-        return r"\(λ κs r\. (now )?r\)"
-    interface = (ROOT / f"target/rlib/{crate}.rlib/interface/lang/src/lib.rt").read_text(encoding="utf-8")
-    answer = re.search(rf"fn {path[-1]} \(.*\) -> (\w+) ;", interface)[1]
+        return r"\(λ κs r\. r(\.now)?\)"
+    interface = (signature(crate, "")[0] / "lib.rt").read_text(encoding="utf-8")
+    answer = re.search(rf"fn {path[-1]} \(.*\) -> (\w+)$", interface, re.M)[1]
     fields = re.findall(r"pub (\w+) :", re.search(rf"struct {answer} {{(.*)}}", interface)[1])
-    return r"{B = [^{}]*} \(λ κs r\. \(" + ", ".join(rf"r \.{field}" for field in fields if field not in left) + r"\)\)"
+    return r"{B = [^{}]*} \(λ κs r\. \(" + ", ".join(rf"r\.{field}" for field in fields if field not in left) + r"\)\)"
 
 
 def cited(clauses, uses):
     """The project's definitions that the clauses cite, and where each stands."""
     found = {}
     for use in uses:
-        if named := re.match(r"Rattle·(\w+)(?:·specs)?\.specs\.([\w.-]+)\.\{(.*)\}$", use):
+        named = re.match(r"Rattle\.(\w+)\.specs\.([\w.]+)\.\{(.*)\}$", use)
+        if named and (ROOT / f"crates/{named[1]}").is_dir():
             words = [word.strip() for word in named[3].strip(", ").split(",")]
-            words = [word for word in words if stands(word.split()[-1].strip("_"), clauses)]
+            words = [word for word in words if stands(word.split()[-1].strip("◌"), clauses)]
             if words:
                 found.setdefault(f"{named[1]}/specs/{named[2].replace('.', '/')}", []).extend(words)
     return [f"{', '.join(words)} of {where}" for where, words in found.items()]
 
 
 def stands(word, clauses):
-    """Whether the word stands in the clauses, by itself."""
-    return re.search(rf"(?<![\w-]){re.escape(word)}(?![\w-])", clauses)
+    """Whether the word stands in the clauses, by itself and not as a field."""
+    return re.search(rf"(?<![\w.'-]){re.escape(word)}(?![\w'-])", clauses)
 
 
 def entry(crate, path):
     """The page's entry of one function."""
-    contract = stored(crate, path)
-    clauses = [f"{word} {' '.join(clause['text']['Read']['bytes'].split())}"
-               for word in ("requires", "ensures") for clause in contract[word]]
-    uses = [" ".join(use["Read"]["bytes"].split()) for use in contract["uses"]]
+    uses, clauses = stored(crate, path)
     lines = [f"`{crate}::{'::'.join(path)}`", "", *("    " + clause for clause in clauses)]
-    words = sorted(cited(" ".join(clauses), uses))
+    words = sorted(cited(" ".join(clause.partition("{")[2] for clause in clauses), uses))
     return "\n".join(lines + (["", f"Where: {'; '.join(words)}."] if words else [])) + "\n"
 
 
@@ -128,7 +143,7 @@ def page(functions):
 
 def main():
     functions, failed = [], []
-    for crate in crates():
+    for crate, _ in crates():
         file = ROOT / f"crates/{crate}/proofs/Settled.antt"
         text = re.sub(r"\n +", " ", file.read_text(encoding="utf-8")) if file.exists() else ""
         if re.search(r"^(\w+ )*(Settles\w*|Says) :", text, re.M):
@@ -137,6 +152,8 @@ def main():
             functions.append((crate, path))
             if lacking(crate, path, text):
                 failed.append(f"{crate}: {'.'.join(path)} is not stated in Settled.antt")
+            if crate.endswith("_c") and stored(crate, path)[1] != stored(crate[:-2], path)[1]:
+                failed.append(f"{crate}: {'.'.join(path)} promises something else than that of {crate[:-2]}")
     asking = {"::".join((crate, *path)) for crate, path in functions if asks(crate, path)}
     failed += [f"docs/PROMISES.md lists {name} as asking, or the function asks: only one of the two"
                for name in sorted(asking ^ set(listed()))]
