@@ -2,7 +2,5 @@ pub mod Number
 pub mod Precedence
 pub mod Computed
 pub mod Numbers
-pub mod Neighbours
 pub mod Hits
 pub mod Given
-pub mod Givens

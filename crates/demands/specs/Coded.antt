@@ -10,7 +10,7 @@ use Rattle.table.specs.declared.Answer.{Answer}
 use Rattle.table.specs.Packed.{shape_of}
 use Rattle.table.specs.Sound.{Sound}
 use Rattle.table.specs.Check.{checked}
-use Rattle.table.specs.Checked.{check_sound, sound-answer, place-most, few-calls}
+use Rattle.table.proofs.Checked.{check_sound, sound-answer, place-most, few-calls}
 use Rattle.calls.specs.Precedence.{precedes}
 use Rattle.orders.specs.Cycle.{Cycle}
 use Rattle.orders.specs.First.{First}
@@ -19,11 +19,11 @@ use Rattle.orders.specs.Once.{once-most}
 use Rattle.placing.specs.Placing.{call_count}
 use Rattle.sorter.specs.Ordering.{ordering}
 use Rattle.sorter.specs.Answers.{ordering-long}
-use Rattle.sorter.specs.Demand.{order_iff, order-first, order_else}
+use Rattle.sorter.proofs.Demand.{order_iff, order-first, order_else}
 use Rattle.judging.specs.Passes.{Passes}
 use Rattle.judging.specs.Verdict.{answer, verdict_of}
-use Rattle.judging.specs.Judged.{passed_N}
-use Rattle.judging.specs.Demand.{passed_exactly, verdict_most}
+use Rattle.judging.proofs.Judged.{passed_N}
+use Rattle.judging.proofs.Demand.{passed_exactly, verdict_most}
 use Rattle.firmware.specs.Code.{coded}
 use Rattle.firmware.specs.Places.{order-most}
 

@@ -6,14 +6,15 @@ use Rattle.calls.specs.Number.{call_of}
 use Rattle.placing.specs.Placing.{call_count}
 use Rattle.sorter.specs.Ordering.{ordering}
 use Rattle.judging.specs.Verdict.{answer, verdict_of}
-use Rattle.judging.specs.Judged.{passed_N}
-use Rattle.judging.specs.Demand.{passed-keeps}
+use Rattle.judging.proofs.Judged.{passed_N}
+use Rattle.judging.proofs.Demand.{passed-keeps}
 use Rattle.judge.specs.CallByCall.{TakenInTurn}
-use Rattle.judge.specs.InTurn.{in_turn_passed}
+use Rattle.judge.proofs.InTurn.{in_turn_passed}
 use Rattle.twin.specs.Rules.{Rules}
 use Rattle.twin.specs.Run.{World, run}
 use Rattle.twin.specs.Equations.{AtTime}
-use Rattle.twin.specs.Integers.{Ends, demand_3, demand_3_alike}
+use Rattle.twin.specs.Integers.{Ends}
+use Rattle.twin.proofs.Integers.{demand_3, demand_3_alike}
 use Rattle.demands.specs.Given.{Given, given-checked, given-first}
 
 module _ (t : List ℕ) (room : ℕ) (given : Given t room) where

@@ -5,14 +5,14 @@ use Rattle.std.proofs.Math.Decide.{ℕ_discrete, dec_lt}
 use Rattle.table.specs.Packed.{shape_of}
 use Rattle.table.specs.Sound.{Sound}
 use Rattle.table.specs.Check.{refusal}
-use Rattle.table.specs.Checked.{passed-sound}
+use Rattle.table.proofs.Checked.{passed-sound}
 use Rattle.calls.specs.Precedence.{precedes}
 use Rattle.orders.specs.First.{First}
 use Rattle.table.specs.Outcome.{Outcome}
 use Rattle.placing.specs.Placing.{call_count}
 use Rattle.sorter.specs.Ordering.{ordering}
 use Rattle.sorter.specs.Answers.{ordering-unsound, ordering-short}
-use Rattle.sorter.specs.Demand.{order-first}
+use Rattle.sorter.proofs.Demand.{order-first}
 
 -- `order` answers 0
 abbrev pub Given : List ℕ → ℕ → Type 0

@@ -7,12 +7,13 @@ use Rattle.table.specs.Packed.{shape_of}
 use Rattle.table.specs.Sound.{Sound}
 use Rattle.placing.specs.Placing.{call_count}
 use Rattle.sorter.specs.Ordering.{ordering}
-use Rattle.sorter.specs.Demand.{order-first}
+use Rattle.sorter.proofs.Demand.{order-first}
 use Rattle.judging.specs.Passes.{Passes}
 use Rattle.twin.specs.Rules.{Rules}
 use Rattle.twin.specs.Run.{World}
 use Rattle.twin.specs.Equations.{AtTime}
-use Rattle.twin.specs.Integers.{Ends, demand_3}
+use Rattle.twin.specs.Integers.{Ends}
+use Rattle.twin.proofs.Integers.{demand_3}
 use Rattle.firmware.specs.Code.{coded}
 use Rattle.firmware.proofs.oorlichday_check.Kinds as check
 use Rattle.firmware.proofs.oorlichday_check.Reads as check-says

@@ -4,12 +4,12 @@ use Rattle.std.proofs.Common.{zero-le, arith}
 use Rattle.std.proofs.Math.Decide.{ℕ_discrete, dec_lt}
 use Rattle.table.specs.Check.{refusal}
 use Rattle.table.specs.Sound.{Sound}
-use Rattle.table.specs.Checked.{passed-sound, few-calls}
+use Rattle.table.proofs.Checked.{passed-sound, few-calls}
 use Rattle.orders.specs.Once.{once-most}
 use Rattle.placing.specs.Placing.{call_count, placed_of}
 use Rattle.sorter.specs.Ordering.{ordering, shown_of}
 use Rattle.sorter.specs.Answers.{ordering-unsound, ordering-short}
-use Rattle.sorter.specs.Demand.{all_placed, not-placed}
+use Rattle.sorter.proofs.Demand.{all_placed, not-placed}
 
 module _ (t : List ℕ) (room : ℕ) (sound : Sound t) (enough : call_count t ≤ room) where
   settled-most : (ordering t room).answer.place ≤ 224

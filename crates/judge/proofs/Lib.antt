@@ -6,4 +6,5 @@ pub mod Turns
 pub mod Recorded
 pub mod Carried
 pub mod Walked
+pub mod InTurn
 pub mod Settled

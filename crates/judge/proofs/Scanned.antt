@@ -25,7 +25,7 @@ use Rattle.table.specs.Packed.{
 }
 use Rattle.table.specs.Check.{refusal}
 use Rattle.table.specs.Layout.{long_input_owners, long-kinds, long-pairs}
-use Rattle.table.specs.Checked.{passed-sound, few-calls}
+use Rattle.table.proofs.Checked.{passed-sound, few-calls}
 use Rattle.calls.specs.Precedence.{has_kind}
 use Rattle.judging.specs.Conditions.{early, unset, unstepped, unfed, ungot}
 use Rattle.judge.specs.Marks.{marks}

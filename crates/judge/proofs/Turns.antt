@@ -19,9 +19,9 @@ use Rattle.table.specs.Check.{refusal, checked}
 use Rattle.table.specs.Sound.{Sound}
 use Rattle.judging.specs.Conditions.{refusal_at}
 use Rattle.judging.specs.Passes.{Passes}
-use Rattle.judging.specs.Demand.{passed_exactly}
+use Rattle.judging.proofs.Demand.{passed_exactly}
 use Rattle.judging.specs.Verdict.{answer, at_end, verdict_from, verdict_of}
-use Rattle.judging.specs.Judged.{verdict_on, verdict_off, verdict_sound, verdict_unsound}
+use Rattle.judging.proofs.Judged.{verdict_on, verdict_off, verdict_sound, verdict_unsound}
 use Rattle.judge.specs.declared.Run.{Run}
 use Rattle.judge.specs.declared.Taken.{Taken}
 use Rattle.judge.specs.Marks.{marks, marks-none, marks-set}

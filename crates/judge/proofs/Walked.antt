@@ -16,11 +16,11 @@ use Rattle.table.specs.Packed.{shape_of}
 use Rattle.table.specs.Check.{refusal, checked}
 use Rattle.judging.specs.Conditions.{refusal_at}
 use Rattle.judging.specs.Verdict.{answer, at_end, verdict_from, verdict_of}
-use Rattle.judging.specs.Judged.{verdict_sound, verdict_unsound}
+use Rattle.judging.proofs.Judged.{verdict_sound, verdict_unsound}
 use Rattle.judge.specs.declared.records.Record.{Record}
 use Rattle.judge.specs.Marks.{marks}
 use Rattle.judge.specs.Records.{numbered, all_numbered}
-use Rattle.judging.specs.Demand.{taken-small}
+use Rattle.judging.proofs.Demand.{taken-small}
 use Rattle.judge.proofs.Carried.{no_record, marked_up_to}
 use Rattle.judge.proofs.Turns.{checked-number, turn_starts, turn_on, turn_off, turn-ends}
 

@@ -2,6 +2,5 @@ pub mod Marks
 pub mod Scans
 pub mod Taken
 pub mod CallByCall
-pub mod InTurn
 pub mod Records
 pub mod Computed

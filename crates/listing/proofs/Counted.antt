@@ -14,7 +14,7 @@ use Rattle.grammar.specs.Words.{lf}
 use Rattle.grammar.specs.Rows.{rows, line_of, first_bad}
 use Rattle.grammar.specs.Opening.{lines_of}
 use Rattle.grammar.specs.Reading.{Reading, reading, line_by_line, stopped}
-use Rattle.reading.specs.Sound.{lines-sound}
+use Rattle.reading.proofs.Sound.{lines-sound}
 use Rattle.reading.specs.Numbers.{numbered}
 use Rattle.declarations.specs.Noted.{declared}
 use Rattle.declarations.specs.Standing.{declared-all}

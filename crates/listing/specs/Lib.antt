@@ -2,4 +2,3 @@
 pub mod Listing
 pub mod Examples
 pub mod Longest
-pub mod Greatest

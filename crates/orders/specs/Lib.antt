@@ -9,10 +9,6 @@ pub mod Computed
 pub mod Follows
 pub mod Apart
 pub mod Unique
-pub mod Sorted
-pub mod Walked
-pub mod Remains
 pub mod Turned
-pub mod Again
 pub mod Once
 pub mod Shown

@@ -10,7 +10,7 @@ use Rattle.table.specs.Sound.{Sound}
 use Rattle.table.specs.Layout.{long-kinds}
 use Rattle.calls.specs.Hits.{nth, hits}
 use Rattle.calls.specs.Given.{into}
-use Rattle.calls.specs.Givens.{hits-same}
+use Rattle.calls.proofs.Givens.{hits-same}
 use Rattle.placing.specs.Less.{each, is_key, called, fed}
 
 module _ (t : List ℕ) (ok : Sound t) where

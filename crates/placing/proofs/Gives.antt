@@ -10,12 +10,12 @@ use Rattle.search.specs.Count.{bit}
 use Rattle.table.specs.Packed.{units, outputs, inputs, feeds, output_owners}
 use Rattle.table.specs.Packed.{input_owners, kinds, sources, pairs, pair_input, shape_of}
 use Rattle.table.specs.Sound.{Sound}
-use Rattle.table.specs.Checked.{few-calls}
+use Rattle.table.proofs.Checked.{few-calls}
 use Rattle.table.specs.Layout.{long_output_owners, long_input_owners, long-sources}
 use Rattle.calls.specs.Number.{get_no, set_no}
 use Rattle.calls.specs.Hits.{nth, hits}
 use Rattle.calls.specs.Given.{only, steps_to_gets, steps_to_sets, into, own_step}
-use Rattle.calls.specs.Givens.{into-step, into_get, into-set}
+use Rattle.calls.proofs.Givens.{into-step, into_get, into-set}
 use Rattle.placing.specs.Less.{is_key, are_keys, is_input, fed}
 use Rattle.placing.specs.Blocks.{Block, Within, Owned, Joined}
 use Rattle.placing.specs.Lowered.{once}

@@ -19,15 +19,15 @@ use Rattle.bits.specs.Laws.{drop-has}
 use Rattle.table.specs.Shape.{Shape, total, Wired}
 use Rattle.table.specs.Packed.{shape_of}
 use Rattle.table.specs.Sound.{Sound}
-use Rattle.table.specs.Checked.{few-calls}
+use Rattle.table.proofs.Checked.{few-calls}
 use Rattle.calls.specs.Number.{get_no}
 use Rattle.calls.specs.Numbers.{View, at-step, at_get, at_set, view}
 use Rattle.calls.specs.Precedence.{step_get, get_set, precedes}
-use Rattle.calls.specs.Neighbours.{precedes_iff, calls-only, not-self}
+use Rattle.calls.proofs.Neighbours.{precedes_iff, calls-only, not-self}
 use Rattle.calls.specs.Given.{only, into}
-use Rattle.calls.specs.Givens.{into-part, into-none, none-into, into-past}
+use Rattle.calls.proofs.Givens.{into-part, into-none, none-into, into-past}
 use Rattle.orders.specs.Sort.{ready, next_call, sort, placed}
-use Rattle.orders.specs.Sorted.{Ready→ready, ready→Ready, next-is, sort-step}
+use Rattle.orders.proofs.Sorted.{Ready→ready, ready→Ready, next-is, sort-step}
 use Rattle.orders.specs.Walk.{among}
 use Rattle.placing.specs.Waiting.{waits, Waiting}
 use Rattle.placing.specs.Lowered.{Lowered}

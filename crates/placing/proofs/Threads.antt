@@ -17,10 +17,10 @@ use Rattle.search.specs.Front.{fronted}
 use Rattle.table.specs.Packed.{shape_of}
 use Rattle.calls.specs.Precedence.{precedes}
 use Rattle.orders.specs.Sort.{next_call, sort, placed}
-use Rattle.orders.specs.Sorted.{next-is, sort-step, sort-stop, sort-none}
+use Rattle.orders.proofs.Sorted.{next-is, sort-step, sort-stop, sort-none}
 use Rattle.orders.specs.Walk.{among}
 use Rattle.orders.specs.Turned.{among-at, at-among}
-use Rattle.orders.specs.Remains.{placed-calls, placed-le}
+use Rattle.orders.proofs.Remains.{placed-calls, placed-le}
 use Rattle.placing.specs.Placing.{call_count, placed_of}
 use Rattle.placing.specs.Thread.{last_of, prior, stands, Standing, chain}
 

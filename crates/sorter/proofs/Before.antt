@@ -11,9 +11,9 @@ use Rattle.search.specs.Least.{least_from, lowest-is, lowest-one}
 use Rattle.table.specs.Shape.{Shape, total, Wired}
 use Rattle.calls.specs.Number.{get_no, set_no}
 use Rattle.calls.specs.Precedence.{feeds_to, has_kind, precedes}
-use Rattle.calls.specs.Neighbours.{feeds-found, found-feeds, kind-found, found-kind}
-use Rattle.calls.specs.Neighbours.{step_get_holds, get_set_holds, set_get_holds, set-step-holds}
-use Rattle.calls.specs.Neighbours.{step-set-holds, before-step, before_get, before-set}
+use Rattle.calls.proofs.Neighbours.{feeds-found, found-feeds, kind-found, found-kind}
+use Rattle.calls.proofs.Neighbours.{step_get_holds, get_set_holds, set_get_holds, set-step-holds}
+use Rattle.calls.proofs.Neighbours.{step-set-holds, before-step, before_get, before-set}
 use Rattle.orders.specs.Sort.{lacks}
 use Rattle.orders.specs.Walk.{lowest_before}
 use Rattle.sorter.specs.Keeps.{keeps_step, keeps_get}

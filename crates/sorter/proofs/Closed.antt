@@ -18,13 +18,13 @@ use Rattle.table.specs.Packed.{inputs, units, shape_of}
 use Rattle.table.specs.Sound.{Sound}
 use Rattle.calls.specs.Number.{get_no, set_no}
 use Rattle.calls.specs.Precedence.{has_kind, precedes}
-use Rattle.calls.specs.Neighbours.{calls-only, kind-found, found-kind, set-step-holds}
-use Rattle.calls.specs.Neighbours.{before-step, before-set}
+use Rattle.calls.proofs.Neighbours.{calls-only, kind-found, found-kind, set-step-holds}
+use Rattle.calls.proofs.Neighbours.{before-step, before-set}
 use Rattle.orders.specs.Sort.{next_call, sort, placed}
-use Rattle.orders.specs.Sorted.{next-is, sort-step, sort-stop, sort-none}
+use Rattle.orders.proofs.Sorted.{next-is, sort-step, sort-stop, sort-none}
 use Rattle.orders.specs.Walk.{among, lowest_before}
-use Rattle.orders.specs.Walked.{Stuck}
-use Rattle.orders.specs.Remains.{placed-stuck}
+use Rattle.orders.proofs.Walked.{Stuck}
+use Rattle.orders.proofs.Remains.{placed-stuck}
 use Rattle.placing.specs.Placing.{call_count, placed_of}
 use Rattle.sorter.specs.Keeps.{keeps_step}
 use Rattle.sorter.specs.Lows.{LowSteps}

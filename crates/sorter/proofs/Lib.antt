@@ -6,4 +6,5 @@ pub mod Trails
 pub mod Turning
 pub mod Showing
 pub mod Joined
+pub mod Demand
 pub mod Settled

@@ -15,7 +15,7 @@ use Rattle.table.specs.Packed.{units, outputs, inputs, feeds, shape_of}
 use Rattle.table.specs.Sound.{Sound}
 use Rattle.calls.specs.Number.{set_no}
 use Rattle.calls.specs.Precedence.{has_kind}
-use Rattle.calls.specs.Neighbours.{kind-found, found-kind}
+use Rattle.calls.proofs.Neighbours.{kind-found, found-kind}
 use Rattle.sorter.specs.Keeps.{keeps_step}
 use Rattle.sorter.specs.Lows.{LowSteps, LowGets}
 use Rattle.sorter.proofs.Before.{Best, best_starts, best_lower, best_stays, best_ends}

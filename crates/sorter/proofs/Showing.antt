@@ -13,9 +13,9 @@ use Rattle.table.specs.Packed.{shape_of}
 use Rattle.calls.specs.Precedence.{precedes}
 use Rattle.orders.specs.Walk.{among, upto, met}
 use Rattle.orders.specs.Turn.{turn, lowest_of, lowest_place, shown}
-use Rattle.orders.specs.Walked.{upto_take}
+use Rattle.orders.proofs.Walked.{upto_take}
 use Rattle.orders.specs.Turned.{turn-length, lowest_place-is, at-among}
-use Rattle.orders.specs.Remains.{placed-calls}
+use Rattle.orders.proofs.Remains.{placed-calls}
 use Rattle.placing.specs.Less.{is_key}
 use Rattle.placing.specs.Placing.{call_count, placed_of}
 use Rattle.sorter.specs.Trail.{Walked}

@@ -16,8 +16,8 @@ use Rattle.bits.specs.Laws.{put_has, put-words}
 use Rattle.table.specs.Packed.{shape_of}
 use Rattle.calls.specs.Precedence.{precedes}
 use Rattle.orders.specs.Walk.{among, lowest_before, lowest_left, walk, met}
-use Rattle.orders.specs.Remains.{cons_calls, placed-stuck, left_one}
-use Rattle.orders.specs.Walked.{lowest-left, walk-met, walk_on, back}
+use Rattle.orders.proofs.Remains.{cons_calls, placed-stuck, left_one}
+use Rattle.orders.proofs.Walked.{lowest-left, walk-met, walk_on, back}
 use Rattle.placing.specs.Placing.{call_count, placed_of}
 use Rattle.placing.specs.Thread.{chain}
 use Rattle.placing.proofs.Threads.{among-end}

@@ -4,4 +4,3 @@ pub mod Trail
 pub mod Ordering
 pub mod OrderOrCycle
 pub mod Answers
-pub mod Demand

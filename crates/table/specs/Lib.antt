@@ -7,5 +7,3 @@ pub mod Tables
 pub mod Computed
 pub mod Layout
 pub mod Chain
-pub mod Wiring
-pub mod Checked

@@ -2,9 +2,6 @@ pub mod Rules
 pub mod Run
 pub mod Equations
 pub mod Computed
-pub mod Midway
-pub mod Solved
 pub mod Demand
-pub mod Moved
 pub mod Integers
 pub mod Examples

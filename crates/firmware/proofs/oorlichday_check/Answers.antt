@@ -1,6 +1,6 @@
 -- The code of what `check` answers, whose place is small enough.
 use mathlib.Core.Path.{ap, ◌∙◌}
-use Rattle.table.specs.Checked.{place-most}
+use Rattle.table.proofs.Checked.{place-most}
 use Rattle.firmware.specs.Code.{coded}
 use Rattle.firmware.proofs.oorlichday_check.Goals as goal
 

@@ -1,6 +1,6 @@
 -- The code of what `verdict` answers, whose place is small enough.
 use mathlib.Core.Path.{ap, ◌∙◌}
-use Rattle.judging.specs.Demand.{verdict_most}
+use Rattle.judging.proofs.Demand.{verdict_most}
 use Rattle.firmware.specs.Code.{coded}
 use Rattle.firmware.proofs.oorlichday_verdict.Goals as goal
 

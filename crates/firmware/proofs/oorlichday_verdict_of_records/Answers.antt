@@ -1,5 +1,5 @@
 -- The code of what the verdict on the records answers, whose place is small enough.
-use Rattle.judging.specs.Demand.{verdict_most}
+use Rattle.judging.proofs.Demand.{verdict_most}
 use Rattle.firmware.proofs.oorlichday_verdict_of_records.Goals as goal
 
 pub code-requires : goal.code-requires

@@ -3,7 +3,7 @@ use borrow.Author.Rules.{rules}
 use Prim.Native.Nat.{◌-◌}
 use mathlib.Core.Path.{refl, sym, ◌∙◌}
 use lib.ListN.{length-set}
-use Rattle.judging.specs.Demand.{taken-small}
+use Rattle.judging.proofs.Demand.{taken-small}
 use Rattle.judge.proofs.Turns.{byte_fits, turn_starts, turn_on, turn_off, turn-ends}
 use Rattle.judge.proofs.in_turn.Goals as goal
 

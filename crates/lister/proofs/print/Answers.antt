@@ -2,7 +2,7 @@
 use Rattle.std.proofs.Common.{rules, sym}
 use native.Mathlib.Omega.{arith}
 use lib.Seq.{length-take-le}
-use Rattle.listing.specs.Greatest.{list_fits}
+use Rattle.listing.proofs.Greatest.{list_fits}
 use Rattle.lister.proofs.print.Goals as goal
 
 pub returns-then-answer-ne0 : goal.returns-then-answer-ne0

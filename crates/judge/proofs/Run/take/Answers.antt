@@ -1,6 +1,6 @@
 -- one law for each answer; a call that is taken is below 224
 use mathlib.Core.Path.{sym, ◌∙◌}
-use Rattle.judging.specs.Demand.{taken-small}
+use Rattle.judging.proofs.Demand.{taken-small}
 use Rattle.judge.proofs.Turns.{checked-number, take-unsound, take-refused, take-taken}
 use Rattle.judge.proofs.Run.take.Goals as goal
 

@@ -1,5 +1,5 @@
 -- one law for each answer; a call that is taken is below 224
-use Rattle.judging.specs.Demand.{taken-small}
+use Rattle.judging.proofs.Demand.{taken-small}
 use Rattle.judge.proofs.Recorded.{record_taken, record_refused}
 use Rattle.judge.proofs.records.judge_record.Goals as goal
 

@@ -1,5 +1,5 @@
 -- Five rules raise the counts from 0; their sum is `into` of every call (`filled`).
-use Rattle.calls.specs.Givens.{row-once, hits-le}
+use Rattle.calls.proofs.Givens.{row-once, hits-le}
 use native.Mathlib.Omega.{arith}
 use mathlib.Core.Path.{sym, ap, ap₂, ◌∙◌}
 use Prim.Native.Nat.{◌+◌}

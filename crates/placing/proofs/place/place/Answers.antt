@@ -1,7 +1,7 @@
 -- Counts, ready calls and notes are as the loop asks (`waiting_starts`).
 use native.Mathlib.Omega.{arith}
 use Rattle.table.specs.Packed.{shape_of}
-use Rattle.table.specs.Checked.{few-calls}
+use Rattle.table.proofs.Checked.{few-calls}
 use Rattle.bits.specs.Laws.{empty-words, empty-has}
 use Rattle.placing.proofs.Stage.{waiting_starts}
 use Rattle.placing.proofs.place.place.Goals as goal

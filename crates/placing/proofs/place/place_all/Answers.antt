@@ -4,7 +4,7 @@ use native.Mathlib.Omega.{arith}
 use mathlib.Core.Path.{sym, subst, ◌∙◌}
 use lib.Dec.{T}
 use lib.ListN.{length}
-use Rattle.table.specs.Checked.{passed-sound, few-calls}
+use Rattle.table.proofs.Checked.{passed-sound, few-calls}
 use Rattle.orders.specs.Walk.{among}
 use Rattle.placing.specs.Placed.{placing-unsound, placing-short, placing-done}
 use Rattle.placing.proofs.Zeros.{zeros}

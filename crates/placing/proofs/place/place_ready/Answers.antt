@@ -5,10 +5,10 @@ use mathlib.Core.List.{[], ◌∷◌, ◌++◌}
 use Prim.Native.Nat.{◌+◌, ◌-◌, ◌<◌}
 use lib.ListN.{length, take, length-append}
 use Rattle.table.specs.Packed.{shape_of}
-use Rattle.table.specs.Checked.{few-calls}
+use Rattle.table.proofs.Checked.{few-calls}
 use Rattle.bits.specs.Laws.{drop-words}
 use Rattle.calls.specs.Precedence.{precedes}
-use Rattle.orders.specs.Sorted.{sort-stop, sort-none}
+use Rattle.orders.proofs.Sorted.{sort-stop, sort-none}
 use Rattle.orders.specs.Walk.{among}
 use Rattle.placing.specs.Placing.{call_count, placed_of}
 use Rattle.placing.proofs.Stage.{lowest-next, lowest-none, stage_starts}

@@ -5,12 +5,12 @@ use mathlib.Core.Path.{refl, sym, ap, subst, ◌∙◌}
 use lib.Dec.{T}
 use lib.ListN.{length}
 use Rattle.search.specs.Front.{fronted}
-use Rattle.table.specs.Checked.{passed-sound, few-calls}
+use Rattle.table.proofs.Checked.{passed-sound, few-calls}
 use Rattle.orders.specs.Walk.{among}
 use Rattle.placing.proofs.Threads.{stood, placed-known}
 use Rattle.placing.proofs.Zeros.{zeros}
 use Rattle.sorter.specs.Answers.{ordering-unsound}
-use Rattle.sorter.specs.Demand.{clauses}
+use Rattle.sorter.proofs.Demand.{clauses}
 use Rattle.sorter.proofs.Joined.{placed-early, order-short, order-all, order-cycle}
 use Rattle.sorter.proofs.order.order.Goals as goal
 

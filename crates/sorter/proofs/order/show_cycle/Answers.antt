@@ -6,7 +6,7 @@ use mathlib.Core.Path.{sym, ap, subst, ◌∙◌}
 use lib.Dec.{T}
 use lib.ListN.{length, get_or}
 use Rattle.search.specs.Front.{fronted}
-use Rattle.table.specs.Checked.{few-calls}
+use Rattle.table.proofs.Checked.{few-calls}
 use Rattle.orders.specs.Walk.{among}
 use Rattle.placing.proofs.Threads.{chain-long}
 use Rattle.sorter.proofs.Showing.{path_rest, path_few, met-shown, met-call}

@@ -1,7 +1,7 @@
 -- What is marked was placed; the passes and the search are over that set.
 use mathlib.Core.Path.{ap, ◌∙◌}
 use Rattle.bits.specs.Laws.{empty-words, empty-has}
-use Rattle.table.specs.Checked.{few-calls}
+use Rattle.table.proofs.Checked.{few-calls}
 use Rattle.orders.specs.Walk.{among}
 use Rattle.sorter.proofs.Showing.{placed_below}
 use Rattle.sorter.proofs.Trails.{left_is}

@@ -6,7 +6,7 @@ use lib.ListN.{set}
 use borrow.Author.Tests.{not-true, not-false}
 use Rattle.search.specs.Truth.{says, denies}
 use Rattle.bits.specs.Laws.{empty-words, empty-has}
-use Rattle.table.specs.Checked.{few-calls}
+use Rattle.table.proofs.Checked.{few-calls}
 use Rattle.sorter.proofs.Trails.{Trail, trail_starts, trail_room, trail_on, trail_met}
 use Rattle.sorter.proofs.walk.walk_back.Goals as goal
 

@@ -14,7 +14,7 @@ use Rattle.table.specs.Shape.{Shape, total, Wired}
 use Rattle.calls.specs.Number.{get_no, set_no}
 use Rattle.calls.specs.Precedence.{Precedes, step_get, get_set, set_get}
 use Rattle.calls.specs.Precedence.{set-step, step_set}
-use Rattle.calls.specs.Neighbours.{precedes_iff, calls-only}
+use Rattle.calls.proofs.Neighbours.{precedes_iff, calls-only}
 use Rattle.calls.specs.Hits.{nth, hits}
 use Rattle.calls.specs.Given.{only, steps_to_gets, steps_to_sets, into, own_step}
 

@@ -30,9 +30,9 @@ use Rattle.calls.specs.Number.{call_of, get_no, set_no}
 use Rattle.calls.specs.Numbers.{is-step, is_get, is_set, is_none}
 use Rattle.calls.specs.Numbers.{View, at-step, at_get, at_set, view}
 use Rattle.calls.specs.Precedence.{feeds_to, by_kind}
-use Rattle.calls.specs.Neighbours.{feeds-found}
+use Rattle.calls.proofs.Neighbours.{feeds-found}
 use Rattle.judging.specs.Passes.{Allows, Meets}
-use Rattle.judging.specs.Met.{meets_call}
+use Rattle.judging.proofs.Meeting.{meets_call}
 use Rattle.twin.specs.Rules.{pick, of_unit, feeding, Rules}
 use Rattle.twin.specs.Run.{At, Values, World, moves, gives, acts}
 use Rattle.twin.specs.Equations.{Solves}

@@ -11,13 +11,13 @@ use Rattle.table.specs.Shape.{Shape, total, Wired}
 use Rattle.calls.specs.Number.{call_of, get_no, set_no}
 use Rattle.calls.specs.Numbers.{is-step, is_get, is_set}
 use Rattle.judging.specs.Passes.{Passes}
-use Rattle.judging.specs.Met.{meets_call}
-use Rattle.judging.specs.Judged.{passes_head, passes-tail}
+use Rattle.judging.proofs.Meeting.{meets_call}
+use Rattle.judging.proofs.Judged.{passes_head, passes-tail}
 use Rattle.twin.specs.Rules.{Rules}
 use Rattle.twin.specs.Run.{Values, World, gives, run}
 use Rattle.twin.specs.Equations.{Solves}
-use Rattle.twin.specs.Midway.{Midway, Holds, next, next-self, next-other}
-use Rattle.twin.specs.Midway.{solves→holds, holds-one, gives-holds}
+use Rattle.twin.proofs.Midway.{Midway, Holds, next, next-self, next-other}
+use Rattle.twin.proofs.Midway.{solves→holds, holds-one, gives-holds}
 
 module _ {State Value : Type 0} (s : Shape) (m : Rules State Value) (ok : Wired s) where
   apart : (done : ℕ → Bool) (c a : ℕ) → T (not (done c)) → T (done a) → a ≢ c

@@ -38,8 +38,8 @@ use Rattle.reading.specs.Takes.{takes-feed, takes-join, Takes, Runs, ends, goes_
 use Rattle.reading.specs.Found.{place-most, place-along}
 use Rattle.reading.specs.Joined.{join_input, join_output, source_by}
 use Rattle.reading.specs.Numbers.{join_place, is_loose}
-use Rattle.reading.specs.Named.{inputs-count}
-use Rattle.reading.specs.Sourced.{source-by, join-place}
+use Rattle.reading.proofs.Named.{inputs-count}
+use Rattle.reading.proofs.Sourced.{source-by, join-place}
 
 -- the numbers of the lines that open with w, the first of all lines being line k
 unfoldable line_numbers : List ℕ → ℕ → List Row → List ℕ

@@ -25,9 +25,9 @@ use Rattle.search.specs.Sets.{none, add}
 use Rattle.search.specs.Least.{least_from, lowest-is}
 use Rattle.search.specs.Count.{count, count-le, count_none, count_add, count-all}
 use Rattle.orders.specs.Sort.{lacks, ready, next_call, sort, placed}
-use Rattle.orders.specs.Sorted.{Ready→ready, next-is, sort-step, sort-stop}
+use Rattle.orders.proofs.Sorted.{Ready→ready, next-is, sort-step, sort-stop}
 use Rattle.orders.specs.Walk.{among}
-use Rattle.orders.specs.Walked.{Stuck}
+use Rattle.orders.proofs.Walked.{Stuck}
 
 -- ---- what was placed, as a set: that of a list, beside those done before
 abbrev both : List ℕ → (ℕ → Bool) → ℕ → Bool

@@ -12,9 +12,9 @@ use Rattle.search.specs.Count.{count, count-le, count_none, count_add}
 use Rattle.orders.specs.Cycle.{Cycle}
 use Rattle.orders.specs.Sort.{ready, placed}
 use Rattle.orders.specs.Walk.{among, upto, lowest_left, walk, met}
-use Rattle.orders.specs.Walked.{Stuck, lowest-left, back, walk-met, walk_on, upto_take}
+use Rattle.orders.proofs.Walked.{Stuck, lowest-left, back, walk-met, walk_on, upto_take}
 use Rattle.orders.specs.Meets.{visit, MeetsAgain, seen}
-use Rattle.orders.specs.Remains.{none-ready, placed-stuck, left_one}
+use Rattle.orders.proofs.Remains.{none-ready, placed-stuck, left_one}
 use Rattle.orders.specs.Turned.{Once}
 
 module _ (N : ℕ) (pred : ℕ → ℕ → Bool) (done : ℕ → Bool) where

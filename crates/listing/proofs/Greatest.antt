@@ -5,20 +5,20 @@ use Rattle.std.proofs.Common.{arith}
 use Rattle.std.proofs.Math.Decide.{ℕ_discrete}
 use borrow.Author.Tests.{eq-eqb, ne_eqb, le-ltb}
 use Rattle.table.specs.Packed.{units, outputs, inputs}
-use Rattle.table.specs.Checked.{few-calls}
+use Rattle.table.proofs.Checked.{few-calls}
 use Rattle.table.specs.declared.Answer.{Answer}
 use Rattle.orders.specs.Turned.{Once}
 use Rattle.placing.specs.Placing.{call_count}
 use Rattle.sorter.specs.Ordering.{ordering}
-use Rattle.sorter.specs.Demand.{order-first, order_else}
+use Rattle.sorter.proofs.Demand.{order-first, order_else}
 use Rattle.grammar.specs.Quoted.{ascii}
 use Rattle.grammar.specs.Words.{same}
 use Rattle.grammar.specs.Rows.{rows}
 use Rattle.grammar.specs.Opening.{Row, lines_of}
 use Rattle.grammar.specs.Reading.{reading}
-use Rattle.reading.specs.Sound.{lines-sound}
+use Rattle.reading.proofs.Sound.{lines-sound}
 use Rattle.reading.specs.Numbers.{numbered}
-use Rattle.reading.specs.Numbered.{read-numbered}
+use Rattle.reading.proofs.Numbered.{read-numbered}
 use Rattle.reading.specs.Names.{read-spelled}
 use Rattle.pen.specs.Chain.{decimal-long}
 use Rattle.printing.specs.Entries.{calls_text, outcome_text}

@@ -9,14 +9,14 @@ use Rattle.calls.specs.declared.Call.TheVariants.{Step, Get, Set}
 use Rattle.calls.specs.Number.{call_of, get_no, set_no}
 use Rattle.calls.specs.Numbers.{is-step, is_get, is_set, View, at-step, at_get, at_set, view}
 use Rattle.calls.specs.Precedence.{precedes}
-use Rattle.calls.specs.Neighbours.{feeds-found, found-feeds, step_get_holds}
-use Rattle.calls.specs.Neighbours.{get_set_holds, set_get_holds, set-step-holds}
-use Rattle.calls.specs.Neighbours.{step-set-holds, before-step, before_get, before-set}
+use Rattle.calls.proofs.Neighbours.{feeds-found, found-feeds, step_get_holds}
+use Rattle.calls.proofs.Neighbours.{get_set_holds, set_get_holds, set-step-holds}
+use Rattle.calls.proofs.Neighbours.{step-set-holds, before-step, before_get, before-set}
 use Rattle.orders.specs.Keeps.{Keeps}
 use Rattle.orders.specs.Follows.{Follows, keeps→follows, follows→keeps}
 use Rattle.judging.specs.Passes.{Allows, Passes}
-use Rattle.judging.specs.Met.{meets_call}
-use Rattle.judging.specs.Judged.{passes_cons, passes_head, passes-tail}
+use Rattle.judging.proofs.Meeting.{meets_call}
+use Rattle.judging.proofs.Judged.{passes_cons, passes_head, passes-tail}
 
 module _ (s : Shape) (ok : Wired s) where
   -- ---- a passed order keeps the rules

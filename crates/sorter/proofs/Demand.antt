@@ -8,13 +8,14 @@ use Rattle.search.specs.Front.{fronted}
 use Rattle.table.specs.declared.Answer.{Answer}
 use Rattle.table.specs.Sound.{Sound}
 use Rattle.table.specs.Packed.{shape_of}
-use Rattle.table.specs.Checked.{sound-passed}
+use Rattle.table.proofs.Checked.{sound-passed}
 use Rattle.calls.specs.Precedence.{precedes}
 use Rattle.orders.specs.Cycle.{Cycle}
 use Rattle.orders.specs.First.{First}
-use Rattle.orders.specs.Sorted.{placed_first}
-use Rattle.orders.specs.Remains.{placed-le}
-use Rattle.orders.specs.Shown.{Shown, shown-is, placed_iff}
+use Rattle.orders.proofs.Sorted.{placed_first}
+use Rattle.orders.proofs.Remains.{placed-le}
+use Rattle.orders.specs.Shown.{Shown}
+use Rattle.orders.proofs.Shown.{shown-is, placed_iff}
 use Rattle.table.specs.Outcome.{Outcome, outcome}
 use Rattle.placing.specs.Placing.{call_count, placed_of}
 use Rattle.sorter.specs.Ordering.{shown_of, ordering}

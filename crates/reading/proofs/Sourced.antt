@@ -38,7 +38,7 @@ use Rattle.reading.specs.Found.{place-alike}
 use Rattle.reading.specs.Joined.{join_input, join_output, source_by, source_at, or_by, sources-run}
 use Rattle.reading.specs.JoinedOnce.{Apart, joins_apart}
 use Rattle.reading.specs.Numbers.{port_number, join_place, join_of, source_number}
-use Rattle.reading.specs.Named.{inputs-count, output-named, input-named, input-at}
+use Rattle.reading.proofs.Named.{inputs-count, output-named, input-named, input-at}
 
 both_true : (a b c e : List ℕ) → T (same a b && same c e) → (a ≡ b) × (c ≡ e)
 both_true a b c e t =

@@ -8,18 +8,18 @@ use Rattle.table.specs.Packed.{shape_of}
 use Rattle.table.specs.Check.{refusal}
 use Rattle.table.specs.Sound.{Sound}
 use Rattle.table.specs.declared.Answer.{Answer}
-use Rattle.table.specs.Checked.{passed-sound, sound-passed, few-calls}
+use Rattle.table.proofs.Checked.{passed-sound, sound-passed, few-calls}
 use Rattle.calls.specs.Precedence.{precedes}
 use Rattle.orders.specs.Keeps.{Keeps}
 use Rattle.orders.specs.Sort.{placed}
-use Rattle.orders.specs.Sorted.{placed_first}
+use Rattle.orders.proofs.Sorted.{placed_first}
 use Rattle.judging.specs.Conditions.{refusal_at}
 use Rattle.judging.specs.Passes.{Passes}
 use Rattle.judging.specs.Verdict.{answer, verdict_of}
-use Rattle.judging.specs.Met.{meets_iff, meets_call}
-use Rattle.judging.specs.Judged.{verdict_sound, verdict_unsound, passed_iff, passed_N}
-use Rattle.judging.specs.Place.{verdict_place}
-use Rattle.judging.specs.Kept.{passes_iff}
+use Rattle.judging.proofs.Meeting.{meets_iff, meets_call}
+use Rattle.judging.proofs.Judged.{verdict_sound, verdict_unsound, passed_iff, passed_N}
+use Rattle.judging.proofs.Place.{verdict_place}
+use Rattle.judging.proofs.Kept.{passes_iff}
 
 module _ (t : List ℕ) where
   -- the verdict is a pass exactly where the table is sound and the list keeps the rules

@@ -33,9 +33,9 @@ use Rattle.reading.specs.Reads.{Comes, to-line, to_end, Reads, reads_20, reads_2
 use Rattle.reading.specs.Reads.{reads_22, reads_23, reads_lines, text_reads}
 use Rattle.reading.specs.Numbers.{is_loose}
 use Rattle.reading.specs.First.{loose-below}
-use Rattle.reading.specs.Loose.{loose-line}
+use Rattle.reading.proofs.Loose.{loose-line}
 use Rattle.reading.specs.WhichLine.{line_count, refusals, Lined}
-use Rattle.reading.specs.Counted.{line-within, count-some, count-rows, last_line}
+use Rattle.reading.proofs.Counted.{line-within, count-some, count-rows, last_line}
 use Rattle.reading.specs.Refused.{LineNumber, refusals-numbers}
 
 -- ---- a number that is not 20 or 34, at a line that is not 0

@@ -10,8 +10,9 @@ use Rattle.table.specs.Packed.{shape_of}
 use Rattle.calls.specs.Number.{call_of}
 use Rattle.twin.specs.Rules.{Rules}
 use Rattle.twin.specs.Run.{World, run}
-use Rattle.twin.specs.Midway.{next, next-self, next-other}
-use Rattle.twin.specs.Demand.{Passed, moved-once}
+use Rattle.twin.proofs.Midway.{next, next-self, next-other}
+use Rattle.twin.specs.Demand.{Passed}
+use Rattle.twin.proofs.Demand.{moved-once}
 
 module _ {State Value : Type 0} (s : Shape) (m : Rules State Value) where
   -- what has no place in a list of calls is as it was after them

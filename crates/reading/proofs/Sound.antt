@@ -8,14 +8,14 @@ use Rattle.table.specs.Shape.{Wired}
 use Rattle.table.specs.Packed.{units, outputs, inputs, feeds, shape_of}
 use Rattle.table.specs.Sound.{Sound}
 use Rattle.table.specs.Check.{refusal}
-use Rattle.table.specs.Checked.{sound-passed}
+use Rattle.table.proofs.Checked.{sound-passed}
 use Rattle.grammar.specs.Rows.{rows}
 use Rattle.grammar.specs.Draft.{Draft, Output, Input, no_input, loose}
 use Rattle.grammar.specs.Reading.{Reading, reading, packed, pairs as feed_pairs}
 use Rattle.reading.specs.Proper.{Proper, no_output, no_feed}
 use Rattle.reading.specs.Reads.{not-loose, text_read}
 use Rattle.reading.specs.Numbers.{numbered}
-use Rattle.reading.specs.Numbered.{read-numbered}
+use Rattle.reading.proofs.Numbered.{read-numbered}
 use Rattle.reading.specs.Parts.{map_at, pairs-long, pairs-input, pairs-output}
 use Rattle.reading.specs.Parts.{long, output-owners, input-owners, kinds-are}
 use Rattle.reading.specs.Parts.{sources-are, pairs-are}

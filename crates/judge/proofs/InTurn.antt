@@ -31,12 +31,12 @@ use Rattle.table.specs.Shape.{total}
 use Rattle.table.specs.Packed.{shape_of}
 use Rattle.table.specs.Check.{refusal}
 use Rattle.table.specs.Sound.{Sound}
-use Rattle.table.specs.Checked.{passed-sound, sound-passed}
+use Rattle.table.proofs.Checked.{passed-sound, sound-passed}
 use Rattle.judging.specs.Conditions.{refusal_at}
 use Rattle.judging.specs.Verdict.{answer, at_end, verdict_from, verdict_of}
-use Rattle.judging.specs.Judged.{verdict_on, verdict_off, verdict_sound}
-use Rattle.judging.specs.Judged.{verdict_unsound, passed_iff, passed_N}
-use Rattle.judging.specs.Demand.{taken-small}
+use Rattle.judging.proofs.Judged.{verdict_on, verdict_off, verdict_sound}
+use Rattle.judging.proofs.Judged.{verdict_unsound, passed_iff, passed_N}
+use Rattle.judging.proofs.Demand.{taken-small}
 use Rattle.judge.specs.declared.Run.{Run}
 use Rattle.judge.specs.Marks.{marks, marks-none, marks-set}
 use Rattle.judge.specs.Taken.{fresh, advanced, taken}

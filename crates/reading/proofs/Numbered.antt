@@ -18,10 +18,10 @@ use Rattle.reading.specs.Numbers.{unit_number, output_number, input_number}
 use Rattle.reading.specs.Numbers.{source_number, feed_numbers, numbered}
 use Rattle.reading.specs.First.{below, unit-below, output-below}
 use Rattle.reading.specs.First.{input-below, join-below, numbered_below}
-use Rattle.reading.specs.Named.{units-are, outputs-are, inputs_are, feeds-are}
-use Rattle.reading.specs.Named.{outputs-count, inputs-count, unit-named}
-use Rattle.reading.specs.Named.{feed-named, unit-at, output-at, input-at}
-use Rattle.reading.specs.Sourced.{sources-are, join-at}
+use Rattle.reading.proofs.Named.{units-are, outputs-are, inputs_are, feeds-are}
+use Rattle.reading.proofs.Named.{outputs-count, inputs-count, unit-named}
+use Rattle.reading.proofs.Named.{feed-named, unit-at, output-at, input-at}
+use Rattle.reading.proofs.Sourced.{sources-are, join-at}
 
 module _ (d : Draft) (fs : List Row) (r : Runs blank 2 fs d) (g : Proper d)
     (all : length d.inputs ≤ loose d) where

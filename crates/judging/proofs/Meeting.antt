@@ -13,7 +13,7 @@ use Rattle.calls.specs.declared.Call.TheVariants.{Step, Get, Set, NoCall}
 use Rattle.calls.specs.Number.{call_of, get_no, set_no}
 use Rattle.calls.specs.Numbers.{is_none}
 use Rattle.calls.specs.Precedence.{has_kind}
-use Rattle.calls.specs.Neighbours.{kind-found, found-kind}
+use Rattle.calls.proofs.Neighbours.{kind-found, found-kind}
 use Rattle.judging.specs.Conditions.{early, unset, unstepped, unfed}
 use Rattle.judging.specs.Conditions.{ungot, refusal_of, refusal_at}
 use Rattle.judging.specs.Passes.{Allows, Meets}
