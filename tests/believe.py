@@ -27,7 +27,7 @@ def counted():
 def theorems():
     """For each theorem that the page names: its file and its statement, or nothing where no file has it."""
     public, others = {}, {name for row in rows() for name in row.named}
-    for path in CRATES.glob("*/specs/*.antt"):
+    for path in [path for part in ("proofs", "specs") for path in CRATES.glob(f"*/{part}/*.antt")]:
         public |= {d.name: (path, d) for d in defined(path) if d.lines[0].strip().startswith("pub ")}
         for listed in re.findall(r"use Rattle\.std\.[\w.]+\.\{([^}]*)\}", path.read_text(encoding="utf-8")):
             others |= set(re.findall(r"\w+", listed))

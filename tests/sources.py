@@ -77,13 +77,14 @@ def declared(crate, parts):
 def brought_in(path):
     """For each name that a file brings in from the project: the file it stands in, and its name there."""
     text, names = path.read_text(encoding="utf-8"), {}
-    for crate, module, listed in re.findall(r"use Rattle\.(\w+)\.specs\.([\w.]+)\.\{([^}]*)\}", text):
+    used = re.findall(r"use Rattle\.(\w+)\.(specs|proofs)\.([\w.]+)\.\{([^}]*)\}", text)
+    for crate, part, module, listed in used:
         if not (CRATES / crate).is_dir():
             continue
         parts = module.split(".")
         for entry in filter(None, map(str.strip, listed.split(","))):
             there, _, here = entry.partition(" as ")
-            at = CRATES / crate / f"specs/{module}.antt", there
+            at = CRATES / crate / part / f"{module}.antt", there
             names[here or there] = declared(crate, parts) if parts[0] == "declared" else at
     for crate, name in re.findall(r"^use (\w+)::([A-Z]\w*);", text, re.M):
         names[name] = (path.parent / "lib.rt" if crate == "crate" else CRATES / crate / "src/lib.rt", name)

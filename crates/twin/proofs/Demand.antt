@@ -77,12 +77,14 @@ module _ {State Value : Type 0} (t : List ℕ) (m : Rules State Value) where
       → a < total (shape_of t)
       → end t m w order (call_of (shape_of t) a) ≡ end t m w other (call_of (shape_of t) a)
   runs-alike order other p q w a h =
-      same-held (end t m w order (call_of (shape_of t) a)) (end t m w other (call_of (shape_of t) a))
+      same-held (end t m w order (call_of (shape_of t) a))
+      (end t m w other (call_of (shape_of t) a))
       (run-single order p w (values (end t m w other)) (run-solves other q w) a h)
       (later (shape_of t) m (wired order p) w order ((passed_iff t order).0 p).1 a h
       ∙ sym (later (shape_of t) m (wired other q) w other ((passed_iff t other).0 q).1 a h))
 
   -- ---- the order that the order's procedure writes, where it places all
 
-  pub written-passed : refusal t ≡ 0 → length (written t m) ≡ total (shape_of t) → Passed t (written t m)
+  pub written-passed : refusal t ≡ 0 → length (written t m) ≡ total (shape_of t)
+      → Passed t (written t m)
   written-passed z e = ap (λ a. a.number) (order-passed t z e)
