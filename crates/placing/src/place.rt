@@ -123,6 +123,8 @@ fn place_ready(
 }
 
 // Places all that can be placed; each placed call's byte then names the call placed before it.
+// Its arrays lie in a frame of their own, which is gone when a cycle is looked for.
+#[inline(never)]
 pub fn place(table: &[u8], count: usize, waiting: &mut [u8; 224]) -> Placed
     requires sound { Sound table.now }
     requires count_value { count ≡ call_count table.now }

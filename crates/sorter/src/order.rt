@@ -38,6 +38,8 @@ fn write_met(seen: &[u8], call: u8, count: u8, out: &mut [u8]) -> usize
 
 // Writes the cycle of what remains at the front of `out`; gives its length.
 // `bytes` threads the placed calls; once they are marked it serves as the walk's path.
+// Its arrays lie in a frame of their own, where those of `place` lay.
+#[inline(never)]
 fn show_cycle(
     table: &[u8],
     count: usize,
