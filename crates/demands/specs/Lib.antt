@@ -1,4 +1,3 @@
 pub mod Given
 pub mod Demands
 pub mod Coded
-pub mod Told
