@@ -4,8 +4,8 @@ set -euo pipefail
 cd "$(dirname "$0")/.."
 source tests/machine.sh
 source tests/tally.sh
-lister=target/bin/lister
-[ -x "$lister" ] || rt check lister >&2
+lister=crates/lister/out/lister
+(cd crates/lister && rt run) </dev/null >&2
 work=$(mktemp -d)
 trap 'rm -rf "$work"' EXIT
 
