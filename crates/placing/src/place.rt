@@ -1,5 +1,4 @@
 // The order's procedure: at each place the lowest ready call, until none is ready.
-// What runs once is kept out of line: inlined, it would cost the order 48 bytes more of stack.
 ghost use Rattle.std.specs.Prelude.{◌≡◌, not, ◌&&◌, ℕ, ◌≤◌, ◌<◌, eqb, ltb, length, get_or};
 ghost use Rattle.search.specs.Sets.{none};
 ghost use Rattle.search.specs.Front.{fronted};
@@ -26,7 +25,6 @@ use table::sound::{
 };
 
 // How many direct predecessors each call has, counted rule by rule.
-#[inline(never)]
 fn fill(table: &[u8], waiting: &mut [u8; 224])
     requires sound { Sound table.now }
     requires waiting_len { length waiting.old ≡ 224 }
@@ -65,7 +63,6 @@ fn find_ready(waiting: &[u8; 224], count: usize, ready: &mut [u64; 4])
 }
 
 // The blocks in which each unit has outputs and inputs.
-#[inline(never)]
 fn note_owners(table: &[u8], own: &mut [u8; 32])
     requires sound { Sound table.now }
     requires own_len { length own.old ≡ 32 }
@@ -76,7 +73,6 @@ fn note_owners(table: &[u8], own: &mut [u8; 32])
 }
 
 // The blocks in which each input has feeds, and in which each output is a source.
-#[inline(never)]
 fn note_joins(table: &[u8], mask: &mut [u8; 96])
     requires sound { Sound table.now }
     requires mask_len { length mask.old ≡ 96 }

@@ -1,12 +1,10 @@
 // The order written from its end, along the thread of the placed calls.
-// Out of line for the order's stack, as the parts of `place` are.
 ghost use Rattle.std.specs.Prelude.{◌≡◌, ℕ, ◌≤◌, ◌<◌, T, length};
 ghost use Rattle.search.specs.Front.{fronted};
 ghost use Rattle.orders.specs.Walk.{among};
 ghost use Rattle.placing.specs.Thread.{chain};
 
 // Writes `count` calls at the front of `out`: `last`, and before each the one that its byte names.
-#[inline(never)]
 pub fn write_back(bytes: &[u8; 224], last: u8, count: usize, out: &mut [u8])
     requires count_in_bounds { count ≤ length out.old }
     requires by_index { (c : ℕ) → T (among (chain bytes.now count last) c) → c < 224 }
