@@ -60,8 +60,7 @@ def writes_otherwise(edit, program, text=None):
         cases.mkdir()
         (cases / "case").write_bytes((STORED / f"{text}.in").read_bytes() if text else b"")
         shutil.copy(STORED / f"{text}.out" if text else crate / "stdout", cases / "case.stdout")
-        # The compiled run alone: the interpreter takes as long again and says the same.
-        otherwise, told = said(["rt", "try", "--steps", "1", "--cases", str(cases)], crate)
+        otherwise, told = said(["rt", "try", "--cases", str(cases)], crate)
     return otherwise and bool(OTHERWISE.search(told))
 
 
