@@ -1,2 +1,3 @@
--- What the contracts settle.
+-- When two sets are the same; and what the contracts settle.
+pub mod Sets
 pub mod Settled

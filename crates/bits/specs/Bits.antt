@@ -11,6 +11,8 @@ use Rattle.std.specs.Prelude.{
   ◌&&◌,
   cond,
   List,
+  [],
+  ◌∷◌,
   length,
   get_or,
   set,
@@ -34,6 +36,10 @@ drop words c =
     cond (ltb c 256)
     (set words (c / 64) (bit_xor (bit_or (get_or words (c / 64) 0) (2 ^ (c % 64))) (2 ^ (c % 64))))
     words
+
+-- four words of 0: no number
+abbrev pub empty : List ℕ
+empty = 0 ∷ 0 ∷ 0 ∷ 0 ∷ []
 
 -- four words of 64 bits
 pub record Words (words : List ℕ) : Type 0 where

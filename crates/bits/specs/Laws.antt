@@ -17,8 +17,6 @@ use Rattle.std.specs.Prelude.{
   ◌&&◌,
   ◌||◌,
   List,
-  [],
-  ◌∷◌,
   get_or,
   set,
   T,
@@ -34,12 +32,14 @@ use Rattle.std.proofs.Math.Decide.{dec_lt, ℕ_discrete}
 use Rattle.std.proofs.Math.Seq.{get_or-set_same, get_or-set_other}
 use Rattle.std.specs.Int.Bits.{bit_or, bit_xor}
 use Rattle.std.proofs.lemmas.Nat.{or_lt, xor_lt}
-use Rattle.std.specs.Int.Count.{count_trailing_zeros}
+use Rattle.std.proofs.lemmas.Nat.Bits.{bit_at-trailing_zeros}
+use mir.Syntax.{w64}
+use Rattle.std.specs.Int.Count.{count_trailing_zeros, trailing_of_zero}
 use Rattle.std.proofs.Math.Pow.{pow-lt}
 use borrow.Author.Tests.{eq-eqb, ne_eqb, lt-ltb, le-ltb}
 use Rattle.search.specs.Sets.{none, add}
 use Rattle.search.specs.Least.{least_from, found, not_found}
-use Rattle.bits.specs.Bits.{has, put, drop, Words, without}
+use Rattle.bits.specs.Bits.{has, put, drop, empty, Words, without}
 use Rattle.bits.specs.Digits.{bit, bit-put, bit-drop, one_bit, trailing_zero, trailing_one}
 
 -- ---- one word changed
@@ -200,10 +200,22 @@ module _ (ws : List ℕ) where
   clear-ends i h l =
       not_found (has ws) 256 256 (omega arith) (omega arith) (λ k g. l k (omega arith))
 
--- ---- four words of 0 hold none
-abbrev pub empty : List ℕ
-empty = 0 ∷ 0 ∷ 0 ∷ 0 ∷ []
+  -- the same of word i as a number: 0, or with the lowest member; and of all four
+  pub word_none : (i : ℕ) → Clear (64 * i) → get_or ws i 0 ≡ 0 → Clear (64 * (i + 1))
+  word_none i l z =
+      clear_on i l (let e = trailing_of_zero 64 in omega (arith, rw (← z) at e))
 
+  pub word-found : Words ws → (i : ℕ) → i < 4 → Clear (64 * i) → (get_or ws i 0 ≡ 0 → ⊥)
+      → (64 * i + count_trailing_zeros 64 (get_or ws i 0) < 256)
+      × (least_from (has ws) 256 0 ≡ 64 * i + count_trailing_zeros 64 (get_or ws i 0))
+  word-found w i h l n =
+      let small = (bit_at-trailing_zeros w64 (get_or ws i 0) (omega arith) (w.small i h)).0 in
+      (omega (arith, small), sym (clear-found i h l small))
+
+  pub words_none : (i : ℕ) → 4 ≤ i → Clear (64 * i) → least_from (has ws) 256 0 ≡ 256
+  words_none i h l = sym (clear-ends i h l)
+
+-- ---- four words of 0 hold none
 empty-word : (i : ℕ) → get_or empty i 0 ≡ 0
 empty-word zero = refl
 empty-word (suc zero) = refl

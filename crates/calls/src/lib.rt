@@ -9,5 +9,6 @@ pub enum Call {
     Step(usize),
     Get(usize),
     Set(usize),
+    // Stays: SPECIFICATION, Forms 1: a `match` on the kind has an arm for no call.
     NoCall,
 }

@@ -1,10 +1,13 @@
 // From a call number to its kind and its place within the kind.
+#![tactic(auto, unfolding(crate::specs::Number::call_in))]
+
 ghost use Rattle.std.specs.Prelude.{◌≡◌};
 ghost use Rattle.table.specs.Packed.{shape_of};
 ghost use Rattle.calls.specs.Number.{call_in, call_of};
 
 use crate::Call;
 use table::parts::{input_count, output_count, unit_count};
+use table::sound::Table;
 
 // The call that a number stands for, where there are so many units, outputs and inputs.
 pub fn call_in(units: usize, outputs: usize, inputs: usize, number: usize) -> Call
@@ -32,6 +35,18 @@ pub fn call_of(table: &[u8], number: usize) -> Call
         unit_count(table),
         output_count(table),
         input_count(table),
+        number,
+    )
+}
+
+// The call of a sound table that a number stands for.
+pub fn call_at(table: Table, number: usize) -> Call
+    ensures { result ≡ call_of (shape_of table.entry.bytes.now) number }
+{
+    call_in(
+        table.unit_count(),
+        table.output_count(),
+        table.input_count(),
         number,
     )
 }

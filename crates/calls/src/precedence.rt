@@ -1,4 +1,6 @@
 // Which call is a direct predecessor of which: SPECIFICATION, Precedence 1 to 5.
+#![tactic(auto, unfolding(crate::specs::Computed::words))]
+
 ghost use Rattle.std.specs.Prelude.{◌≡◌, ◌&&◌, ◌<◌, eqb};
 ghost use Rattle.table.specs.Packed.{pair_input, pair_output, shape_of};
 ghost use Rattle.calls.specs.declared.Call.TheVariants.{Step, Get, Set};
@@ -19,10 +21,7 @@ use table::parts::{
 fn has_kind(table: &[u8], kind: usize, x: usize, u: usize) -> bool
     ensures { result ≡ has_kind (shape_of table.now) kind x u }
 {
-    if byte(input_kinds(table), x) != kind {
-        return false;
-    }
-    byte(input_owners(table), x) == u
+    byte(input_kinds(table), x) == kind && byte(input_owners(table), x) == u
 }
 
 // Is feed k of input x to output y?
@@ -31,10 +30,7 @@ fn is_feed(pairs: &[u8], k: usize, x: usize, y: usize) -> bool
     ensures { result ≡ (eqb (pair_input pairs.now k) x
         && eqb (pair_output pairs.now k) y) }
 {
-    if byte(pairs, 2 * k) != x {
-        return false;
-    }
-    byte(pairs, 2 * k + 1) == y
+    byte(pairs, 2 * k) == x && byte(pairs, 2 * k + 1) == y
 }
 
 // Does input x feed output y?
@@ -42,15 +38,7 @@ fn feeds_to(table: &[u8], x: usize, y: usize) -> bool
     ensures { result ≡ feeds_to (shape_of table.now) x y }
 {
     let pairs = feed_pairs(table);
-    let f = feed_count(table);
-    let mut k = 0;
-    while k < f {
-        if is_feed(pairs, k, x, y) {
-            return true;
-        }
-        k += 1;
-    }
-    false
+    (0..feed_count(table)).any(|k| is_feed(pairs, k, x, y))
 }
 
 // Does the step of unit u come before this call?

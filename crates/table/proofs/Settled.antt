@@ -1,9 +1,7 @@
--- Each public function's contract permits one answer, with every lent byte; those of `sound` ask
--- for a sound table, all others nothing.
+-- Each public function's contract asks nothing and permits one answer, with every lent byte.
 use mathlib.Core.Path.{sym, refl, ◌∙◌}
-use Rattle.search.specs.Settling.{Settles, SettlesSeen, SettlesWhere}
-use Rattle.table.proofs.check.first_refusal.Kinds as first-refusal
-use Rattle.table.proofs.check.first_refusal.Reads as first-refusal-says
+use Rattle.std.specs.Result.{result_map_both}
+use Rattle.search.specs.Settling.{Settles, SettlesSeen}
 use Rattle.table.proofs.check.check.Kinds as check
 use Rattle.table.proofs.check.check.Reads as check-says
 use Rattle.table.proofs.parts.byte.Kinds as byte
@@ -30,28 +28,31 @@ use Rattle.table.proofs.parts.input_sources.Kinds as input-sources
 use Rattle.table.proofs.parts.input_sources.Reads as input-sources-says
 use Rattle.table.proofs.parts.feed_pairs.Kinds as feed-pairs
 use Rattle.table.proofs.parts.feed_pairs.Reads as feed-pairs-says
-use Rattle.table.proofs.sound.unit_count.Kinds as sound-unit-count
-use Rattle.table.proofs.sound.unit_count.Reads as sound-unit-count-says
-use Rattle.table.proofs.sound.output_count.Kinds as sound-output-count
-use Rattle.table.proofs.sound.output_count.Reads as sound-output-count-says
-use Rattle.table.proofs.sound.input_count.Kinds as sound-input-count
-use Rattle.table.proofs.sound.input_count.Reads as sound-input-count-says
-use Rattle.table.proofs.sound.feed_count.Kinds as sound-feed-count
-use Rattle.table.proofs.sound.feed_count.Reads as sound-feed-count-says
-use Rattle.table.proofs.sound.output_owners.Kinds as sound-output-owners
-use Rattle.table.proofs.sound.output_owners.Reads as sound-output-owners-says
-use Rattle.table.proofs.sound.input_owners.Kinds as sound-input-owners
-use Rattle.table.proofs.sound.input_owners.Reads as sound-input-owners-says
-use Rattle.table.proofs.sound.input_kinds.Kinds as sound-input-kinds
-use Rattle.table.proofs.sound.input_kinds.Reads as sound-input-kinds-says
-use Rattle.table.proofs.sound.input_sources.Kinds as sound-input-sources
-use Rattle.table.proofs.sound.input_sources.Reads as sound-input-sources-says
-use Rattle.table.proofs.sound.feed_pairs.Kinds as sound-feed-pairs
-use Rattle.table.proofs.sound.feed_pairs.Reads as sound-feed-pairs-says
-
-pub first-refusal-settled : Settles first-refusal.ps first-refusal.r first-refusal-says.Asked
-    first-refusal-says.Learnt
-first-refusal-settled = ((λ κs a. tt), (λ κs a x y w v p q. (p ∙ sym q, refl)))
+use Rattle.table.proofs.Faults.{one_result}
+use Rattle.table.proofs.Fault.number.Kinds as fault-number
+use Rattle.table.proofs.Fault.number.Reads as fault-number-says
+use Rattle.table.proofs.sound.Table.new.Kinds as table-new
+use Rattle.table.proofs.sound.Table.new.Reads as table-new-says
+use Rattle.table.proofs.sound.Table.unit_count.Kinds as table-unit-count
+use Rattle.table.proofs.sound.Table.unit_count.Reads as table-unit-count-says
+use Rattle.table.proofs.sound.Table.output_count.Kinds as table-output-count
+use Rattle.table.proofs.sound.Table.output_count.Reads as table-output-count-says
+use Rattle.table.proofs.sound.Table.input_count.Kinds as table-input-count
+use Rattle.table.proofs.sound.Table.input_count.Reads as table-input-count-says
+use Rattle.table.proofs.sound.Table.feed_count.Kinds as table-feed-count
+use Rattle.table.proofs.sound.Table.feed_count.Reads as table-feed-count-says
+use Rattle.table.proofs.sound.Table.call_count.Kinds as table-call-count
+use Rattle.table.proofs.sound.Table.call_count.Reads as table-call-count-says
+use Rattle.table.proofs.sound.Table.output_owners.Kinds as table-output-owners
+use Rattle.table.proofs.sound.Table.output_owners.Reads as table-output-owners-says
+use Rattle.table.proofs.sound.Table.input_owners.Kinds as table-input-owners
+use Rattle.table.proofs.sound.Table.input_owners.Reads as table-input-owners-says
+use Rattle.table.proofs.sound.Table.input_kinds.Kinds as table-input-kinds
+use Rattle.table.proofs.sound.Table.input_kinds.Reads as table-input-kinds-says
+use Rattle.table.proofs.sound.Table.input_sources.Kinds as table-input-sources
+use Rattle.table.proofs.sound.Table.input_sources.Reads as table-input-sources-says
+use Rattle.table.proofs.sound.Table.feed_pairs.Kinds as table-feed-pairs
+use Rattle.table.proofs.sound.Table.feed_pairs.Reads as table-feed-pairs-says
 
 pub check-settled : Settles check.ps check.r check-says.Asked check-says.Learnt
 check-settled = ((λ κs a. tt), (λ κs a x y w v p q. (p ∙ sym q, refl)))
@@ -103,38 +104,53 @@ pub feed-pairs-settled : SettlesSeen feed-pairs.ps feed-pairs.r feed-pairs-says.
     feed-pairs-says.Learnt (λ κs r. r.now)
 feed-pairs-settled = ((λ κs a. tt), (λ κs a x y w v p q. (p ∙ sym q, refl)))
 
-pub sound-unit-count-settled : SettlesWhere sound-unit-count.ps sound-unit-count.r
-    sound-unit-count-says.Asked sound-unit-count-says.Learnt (λ κs r. r)
-sound-unit-count-settled κs a h x y w v p q = (p.0 ∙ sym q.0, refl)
+pub fault-number-settled : Settles fault-number.ps fault-number.r fault-number-says.Asked
+    fault-number-says.Learnt
+fault-number-settled = ((λ κs a. tt), (λ κs a x y w v p q. (p ∙ sym q, refl)))
 
-pub sound-output-count-settled : SettlesWhere sound-output-count.ps sound-output-count.r
-    sound-output-count-says.Asked sound-output-count-says.Learnt (λ κs r. r)
-sound-output-count-settled κs a h x y w v p q = (p.0 ∙ sym q.0, refl)
+pub table-unit-count-settled : Settles table-unit-count.ps table-unit-count.r
+    table-unit-count-says.Asked table-unit-count-says.Learnt
+table-unit-count-settled = ((λ κs a. tt), (λ κs a x y w v p q. (p.0 ∙ sym q.0, refl)))
 
-pub sound-input-count-settled : SettlesWhere sound-input-count.ps sound-input-count.r
-    sound-input-count-says.Asked sound-input-count-says.Learnt (λ κs r. r)
-sound-input-count-settled κs a h x y w v p q = (p.0 ∙ sym q.0, refl)
+pub table-output-count-settled : Settles table-output-count.ps table-output-count.r
+    table-output-count-says.Asked table-output-count-says.Learnt
+table-output-count-settled = ((λ κs a. tt), (λ κs a x y w v p q. (p.0 ∙ sym q.0, refl)))
 
-pub sound-feed-count-settled : SettlesWhere sound-feed-count.ps sound-feed-count.r
-    sound-feed-count-says.Asked sound-feed-count-says.Learnt (λ κs r. r)
-sound-feed-count-settled κs a h x y w v p q = (p.0 ∙ sym q.0, refl)
+pub table-input-count-settled : Settles table-input-count.ps table-input-count.r
+    table-input-count-says.Asked table-input-count-says.Learnt
+table-input-count-settled = ((λ κs a. tt), (λ κs a x y w v p q. (p.0 ∙ sym q.0, refl)))
 
-pub sound_output_owners_settled : SettlesWhere sound-output-owners.ps sound-output-owners.r
-    sound-output-owners-says.Asked sound-output-owners-says.Learnt (λ κs r. r.now)
-sound_output_owners_settled κs a h x y w v p q = (p ∙ sym q, refl)
+pub table-feed-count-settled : Settles table-feed-count.ps table-feed-count.r
+    table-feed-count-says.Asked table-feed-count-says.Learnt
+table-feed-count-settled = ((λ κs a. tt), (λ κs a x y w v p q. (p.0 ∙ sym q.0, refl)))
 
-pub sound_input_owners_settled : SettlesWhere sound-input-owners.ps sound-input-owners.r
-    sound-input-owners-says.Asked sound-input-owners-says.Learnt (λ κs r. r.now)
-sound_input_owners_settled κs a h x y w v p q = (p ∙ sym q, refl)
+pub table-call-count-settled : Settles table-call-count.ps table-call-count.r
+    table-call-count-says.Asked table-call-count-says.Learnt
+table-call-count-settled = ((λ κs a. tt), (λ κs a x y w v p q. (p.0 ∙ sym q.0, refl)))
 
-pub sound-input-kinds-settled : SettlesWhere sound-input-kinds.ps sound-input-kinds.r
-    sound-input-kinds-says.Asked sound-input-kinds-says.Learnt (λ κs r. r.now)
-sound-input-kinds-settled κs a h x y w v p q = (p ∙ sym q, refl)
+pub table-output-owners-settled : SettlesSeen table-output-owners.ps table-output-owners.r
+    table-output-owners-says.Asked table-output-owners-says.Learnt (λ κs r. r.now)
+table-output-owners-settled = ((λ κs a. tt), (λ κs a x y w v p q. (p ∙ sym q, refl)))
 
-pub sound-input-sources-settled : SettlesWhere sound-input-sources.ps sound-input-sources.r
-    sound-input-sources-says.Asked sound-input-sources-says.Learnt (λ κs r. r.now)
-sound-input-sources-settled κs a h x y w v p q = (p ∙ sym q, refl)
+pub table-input-owners-settled : SettlesSeen table-input-owners.ps table-input-owners.r
+    table-input-owners-says.Asked table-input-owners-says.Learnt (λ κs r. r.now)
+table-input-owners-settled = ((λ κs a. tt), (λ κs a x y w v p q. (p ∙ sym q, refl)))
 
-pub sound-feed-pairs-settled : SettlesWhere sound-feed-pairs.ps sound-feed-pairs.r
-    sound-feed-pairs-says.Asked sound-feed-pairs-says.Learnt (λ κs r. r.now)
-sound-feed-pairs-settled κs a h x y w v p q = (p ∙ sym q, refl)
+pub table-input-kinds-settled : SettlesSeen table-input-kinds.ps table-input-kinds.r
+    table-input-kinds-says.Asked table-input-kinds-says.Learnt (λ κs r. r.now)
+table-input-kinds-settled = ((λ κs a. tt), (λ κs a x y w v p q. (p ∙ sym q, refl)))
+
+pub table-input-sources-settled : SettlesSeen table-input-sources.ps table-input-sources.r
+    table-input-sources-says.Asked table-input-sources-says.Learnt (λ κs r. r.now)
+table-input-sources-settled = ((λ κs a. tt), (λ κs a x y w v p q. (p ∙ sym q, refl)))
+
+pub table-feed-pairs-settled : SettlesSeen table-feed-pairs.ps table-feed-pairs.r
+    table-feed-pairs-says.Asked table-feed-pairs-says.Learnt (λ κs r. r.now)
+table-feed-pairs-settled = ((λ κs a. tt), (λ κs a x y w v p q. (p ∙ sym q, refl)))
+
+pub table-new-settled : SettlesSeen table-new.ps table-new.r table-new-says.Asked
+    table-new-says.Learnt (λ κs r. result_map_both (λ t. t.bytes.now) (λ e. e) r)
+table-new-settled = (
+  (λ κs a. tt),
+  (λ κs a x y w v p q. (one_result (λ t. t.bytes.now) _ x y (p.0 ∙ sym q.0) p.1 q.1, refl)),
+)

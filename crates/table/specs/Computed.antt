@@ -1,36 +1,15 @@
 -- The check on examples, computed: a definition that says something else makes one false.
 use Rattle.std.specs.Prelude.{◌≡◌, refl, [], ◌∷◌}
 use Rattle.search.specs.Every.{every, some}
-use Rattle.table.specs.Packed.{
-  units,
-  outputs,
-  inputs,
-  feeds,
-  output_owners,
-  input_owners,
-  kinds,
-  sources,
-  pairs,
-  asked,
-}
-use Rattle.table.specs.Check.{
-  refuse,
-  counts_in,
-  all_below,
-  is_pair,
-  feed_known,
-  feed_again,
-  feeds_from,
-  wiring,
-  refusal,
-  checked,
-}
+use Rattle.table.specs.Check.{counts_in, all_below, is_pair, feed_known, feed_again}
+use Rattle.table.specs.Check.{feeds_from, checked}
+use Rattle.table.specs.Layout.{layout}
+use Rattle.table.specs.Chain.{chain}
 use Rattle.table.specs.Tables.{A, C_with}
 
 -- all that a check is computed with: `unfolding words` opens each of them
 unfoldable pub words : Unit {0}
-unfolding every some units outputs inputs feeds output_owners input_owners kinds sources pairs asked
-    refuse counts_in all_below is_pair feed_known feed_again feeds_from wiring refusal checked
+unfolding every some layout chain counts_in all_below is_pair feed_known feed_again feeds_from
 words = tt
 
 pub checks :

@@ -1,6 +1,7 @@
 pub mod Shape
 pub mod Packed
 pub mod Sound
+pub mod Fault
 pub mod Check
 pub mod Outcome
 pub mod Tables

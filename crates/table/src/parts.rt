@@ -1,4 +1,6 @@
 // The counts and the parts of a packed table; where there are no bytes, 0 and the empty part.
+#![tactic(auto, unfolding(crate::specs::Layout::layout))]
+
 ghost use Rattle.std.specs.Prelude.{◌≡◌, ◌<◌, get_or};
 ghost use Rattle.table.specs.Shape.{total};
 ghost use Rattle.table.specs.Packed.{
@@ -20,25 +22,15 @@ pub fn byte(bytes: &[u8], place: usize) -> usize
     ensures value { result ≡ get_or bytes.now place 0 }
     ensures upper_bound { result < 256 }
 {
-    if place < bytes.len() {
-        return bytes[place] as usize;
-    }
-    0
+    usize::from(bytes.get(place).copied().unwrap_or(0))
 }
 
 // As many of `count` bytes from `from` on as there are.
 pub fn stretch(bytes: &[u8], from: usize, count: usize) -> &[u8]
     ensures { result.now ≡ part bytes.now from count }
 {
-    let end = bytes.len();
-    if end <= from {
-        return &bytes[end..end];
-    }
-    if end - from <= count {
-        return &bytes[from..end];
-    }
-    let to = from + count;
-    &bytes[from..to]
+    let rest = &bytes[from.min(bytes.len())..];
+    &rest[..count.min(rest.len())]
 }
 
 // U.

@@ -1,90 +1,116 @@
 // The counts and the parts of a sound table: all their bytes are there.
-ghost use Rattle.std.specs.Prelude.{◌≡◌, ◌<◌};
-ghost use Rattle.table.specs.Packed.{units, outputs, inputs, feeds};
+#![tactic(auto, unfolding(crate::specs::Layout::layout))]
+
+ghost use Rattle.std.specs.Prelude.{◌≡◌, ◌≤◌, IfOk};
+ghost use Rattle.table.specs.Shape.{total};
+ghost use Rattle.table.specs.Packed.{units, outputs, inputs, feeds, shape_of};
 ghost use Rattle.table.specs.Packed.{output_owners, input_owners, kinds, sources, pairs};
 ghost use Rattle.table.specs.Sound.{Sound};
+ghost use Rattle.table.specs.Check.{refusal as refusal_of};
+ghost use Rattle.table.specs.Fault.{number_of};
 
-// U.
-pub fn unit_count(table: &[u8]) -> usize
-    requires { Sound table.now }
-    ensures value { result ≡ units table.now }
-    ensures upper_bound { result < 256 }
-{
-    table[0] as usize
+use crate::Fault;
+use crate::check::refusal;
+
+// A sound table, by the bytes that it is packed in.
+#[derive(Clone, Copy)]
+pub struct Table<'a> {
+    pub bytes: &'a [u8],
+    ghost sound: { Sound bytes.now },
 }
 
-// Y.
-pub fn output_count(table: &[u8]) -> usize
-    requires { Sound table.now }
-    ensures value { result ≡ outputs table.now }
-    ensures upper_bound { result < 256 }
-{
-    table[1] as usize
-}
+// Stays: through `parts`, which cuts at the end, `order` takes 136,580 instructions of 130,000.
+impl<'a> Table<'a> {
+    // The table that the bytes are, or the first fault that the check finds.
+    pub fn new(bytes: &'a [u8]) -> Result<Table<'a>, Fault>
+        ensures number { number_of result ≡ refusal_of bytes.now }
+        ensures bytes { IfOk result (λ t. t.bytes.now ≡ bytes.now) }
+    {
+        refusal(bytes)?;
+        Ok(Table { bytes })
+    }
 
-// X.
-pub fn input_count(table: &[u8]) -> usize
-    requires { Sound table.now }
-    ensures value { result ≡ inputs table.now }
-    ensures upper_bound { result < 256 }
-{
-    table[2] as usize
-}
+    // U.
+    pub fn unit_count(self) -> usize
+        ensures value { result ≡ units self.entry.bytes.now }
+        ensures upper_bound { result ≤ 32 }
+    {
+        self.bytes[0] as usize
+    }
 
-// F.
-pub fn feed_count(table: &[u8]) -> usize
-    requires { Sound table.now }
-    ensures value { result ≡ feeds table.now }
-    ensures upper_bound { result < 256 }
-{
-    table[3] as usize
-}
+    // Y.
+    pub fn output_count(self) -> usize
+        ensures value { result ≡ outputs self.entry.bytes.now }
+        ensures upper_bound { result ≤ 96 }
+    {
+        self.bytes[1] as usize
+    }
 
-// The unit that owns each output.
-pub fn output_owners(table: &[u8]) -> &[u8]
-    requires { Sound table.now }
-    ensures { result.now ≡ output_owners table.now }
-{
-    let y = output_count(table);
-    &table[4..4 + y]
-}
+    // X.
+    pub fn input_count(self) -> usize
+        ensures value { result ≡ inputs self.entry.bytes.now }
+        ensures upper_bound { result ≤ 96 }
+    {
+        self.bytes[2] as usize
+    }
 
-// The unit that owns each input.
-pub fn input_owners(table: &[u8]) -> &[u8]
-    requires { Sound table.now }
-    ensures { result.now ≡ input_owners table.now }
-{
-    let a = 4 + output_count(table);
-    let x = input_count(table);
-    &table[a..a + x]
-}
+    // F.
+    pub fn feed_count(self) -> usize
+        ensures value { result ≡ feeds self.entry.bytes.now }
+        ensures upper_bound { result ≤ 128 }
+    {
+        self.bytes[3] as usize
+    }
 
-// Each input's kind: 0 delayed, 1 reactive.
-pub fn input_kinds(table: &[u8]) -> &[u8]
-    requires { Sound table.now }
-    ensures { result.now ≡ kinds table.now }
-{
-    let x = input_count(table);
-    let a = 4 + output_count(table) + x;
-    &table[a..a + x]
-}
+    // N.
+    pub fn call_count(self) -> usize
+        ensures value { result ≡ total (shape_of self.entry.bytes.now) }
+        ensures upper_bound { result ≤ 224 }
+    {
+        self.unit_count() + self.output_count() + self.input_count()
+    }
 
-// Each input's source, an output.
-pub fn input_sources(table: &[u8]) -> &[u8]
-    requires { Sound table.now }
-    ensures { result.now ≡ sources table.now }
-{
-    let x = input_count(table);
-    let a = 4 + output_count(table) + 2 * x;
-    &table[a..a + x]
-}
+    // The unit that owns each output.
+    pub fn output_owners(self) -> &'a [u8]
+        ensures { result.now ≡ output_owners self.entry.bytes.now }
+    {
+        let y = self.output_count();
+        &self.bytes[4..4 + y]
+    }
 
-// The feeds, each a byte for its input and one for its output.
-pub fn feed_pairs(table: &[u8]) -> &[u8]
-    requires { Sound table.now }
-    ensures { result.now ≡ pairs table.now }
-{
-    let a = 4 + output_count(table) + 3 * input_count(table);
-    let n = 2 * feed_count(table);
-    &table[a..a + n]
+    // The unit that owns each input.
+    pub fn input_owners(self) -> &'a [u8]
+        ensures { result.now ≡ input_owners self.entry.bytes.now }
+    {
+        let a = 4 + self.output_count();
+        let x = self.input_count();
+        &self.bytes[a..a + x]
+    }
+
+    // Each input's kind: 0 delayed, 1 reactive.
+    pub fn input_kinds(self) -> &'a [u8]
+        ensures { result.now ≡ kinds self.entry.bytes.now }
+    {
+        let x = self.input_count();
+        let a = 4 + self.output_count() + x;
+        &self.bytes[a..a + x]
+    }
+
+    // Each input's source, an output.
+    pub fn input_sources(self) -> &'a [u8]
+        ensures { result.now ≡ sources self.entry.bytes.now }
+    {
+        let x = self.input_count();
+        let a = 4 + self.output_count() + 2 * x;
+        &self.bytes[a..a + x]
+    }
+
+    // The feeds, each a byte for its input and one for its output.
+    pub fn feed_pairs(self) -> &'a [u8]
+        ensures { result.now ≡ pairs self.entry.bytes.now }
+    {
+        let a = 4 + self.output_count() + 3 * self.input_count();
+        let n = 2 * self.feed_count();
+        &self.bytes[a..a + n]
+    }
 }
