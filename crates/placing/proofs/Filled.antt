@@ -3,31 +3,28 @@ use mathlib.Core.Path.{◌≡◌, sym, ◌∙◌}
 use mathlib.Core.Bool.{true, not, ◌&&◌, and-true}
 use mathlib.Core.List.{List}
 use Prim.Native.Nat.{ℕ, ◌+◌}
-use lib.ListN.{length}
 use Rattle.search.specs.Sets.{none}
 use Rattle.table.specs.Packed.{units, outputs, inputs, feeds, input_owners, kinds, pairs, shape_of}
-use Rattle.table.specs.Sound.{Sound}
-use Rattle.table.specs.Layout.{long-kinds}
 use Rattle.calls.specs.Hits.{nth, hits}
 use Rattle.calls.specs.Given.{into}
 use Rattle.calls.proofs.Givens.{hits-same}
 use Rattle.placing.specs.Less.{each, is_key, called, fed}
 
-module _ (t : List ℕ) (ok : Sound t) where
+module _ (t : List ℕ) where
   pub filled : (gets sets outputs' inputs' feeds' : ℕ) (kinds' owners' pairs' : List ℕ)
       → gets ≡ units t
       → outputs' ≡ outputs t → sets ≡ units t + outputs t → inputs' ≡ inputs t → feeds' ≡ feeds t
       → kinds' ≡ kinds t → owners' ≡ input_owners t → pairs' ≡ pairs t
       → (c n : ℕ)
       → n
-      ≡ hits each (nth gets) outputs' c + hits each (nth sets) inputs' c
+      ≡ hits each (nth (units t)) outputs' c + hits each (nth sets) inputs' c
       + hits each (fed pairs' gets) feeds' c
-      + hits (is_key kinds' 1) (called owners') (length kinds') c
-      + hits (is_key kinds' 0) (nth sets) (length kinds') c
+      + hits (is_key kinds' 1) (called owners') inputs' c
+      + hits (is_key kinds' 0) (nth sets) inputs' c
       → n ≡ into (shape_of t) (λ a. not (none a)) c
   unfolding into
   filled gets sets outputs' inputs' feeds' kinds' owners' pairs' eg eo es ei ef ek ew ep c n h =
-      h ∙ rw (eg, eo, es, ei, ef, ek, ew, ep, long-kinds t ok.long, reactive c)
+      h ∙ rw (eg, eo, es, ei, ef, ek, ew, ep, reactive c)
     where
       -- the test of every call changes nothing
       reactive : (c : ℕ)

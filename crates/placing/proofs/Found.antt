@@ -3,7 +3,7 @@ use mathlib.Core.Path.{◌≡◌, refl, ap, ◌∙◌}
 use mathlib.Core.Logic.{◌≢◌}
 use mathlib.Core.Bool.{◌&&◌}
 use mathlib.Core.List.{List}
-use Prim.Native.Nat.{ℕ, ◌+◌, ◌≤◌, ◌<◌}
+use Prim.Native.Nat.{ℕ, ◌+◌, ◌<◌}
 use native.Mathlib.Omega.{arith}
 use native.Mathlib.Decide.{ℕ_discrete, dec_lt}
 use lib.Dec.{eqb, ltb}
@@ -59,7 +59,3 @@ module _ (counts bits : List ℕ) where
             | no ne ↦ rw (before c ne)
           ];
     }
-
-    pub found-ends : (count : ℕ) → n ≤ count → count ≤ n → Found counts n bits
-        → Words bits × ((c : ℕ) → has bits c ≡ (ltb c count && eqb (get_or counts c 0) 0))
-    found-ends count h k g = let e : count ≡ n = omega arith in (g.words, λ c. rw e (g.are c))

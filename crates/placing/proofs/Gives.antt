@@ -1,9 +1,10 @@
 -- What each kind of call releases, in the terms of the code: the parts and counts that it has read.
 use mathlib.Core.Path.{◌≡◌, sym, ap, subst, ◌∙◌}
 use mathlib.Core.List.{List}
-use Prim.Native.Nat.{ℕ, ◌+◌, ◌/◌, ◌%◌, ◌≤◌, ◌<◌}
+use Prim.Native.Nat.{ℕ, ◌+◌, ◌/◌, ◌≤◌, ◌<◌}
 use native.Mathlib.Omega.{arith}
-use lib.Dec.{eqb, eqb→eq, eqb_refl}
+use native.Mathlib.Nat.{zero-add}
+use lib.Dec.{T, eqb, eqb→eq, eqb_refl}
 use lib.ListN.{length, get_or}
 use Rattle.search.specs.Truth.{T_and, is_true, is_false, eq_false}
 use Rattle.search.specs.Count.{bit}
@@ -17,9 +18,8 @@ use Rattle.calls.specs.Hits.{nth, hits}
 use Rattle.calls.specs.Given.{only, steps_to_gets, steps_to_sets, into, own_step}
 use Rattle.calls.proofs.Givens.{into-step, into_get, into-set}
 use Rattle.placing.specs.Less.{is_key, are_keys, is_input, fed}
-use Rattle.placing.specs.Blocks.{Block, Within, Owned, Joined}
+use Rattle.placing.specs.Blocks.{Block, Owned, Joined}
 use Rattle.placing.specs.Lowered.{once}
-use Rattle.placing.proofs.Noted.{within_low, within-high}
 
 module _ (t : List ℕ) (ok : Sound t) where
   -- the last call stands before the end of the counts
@@ -96,45 +96,38 @@ module _ (t : List ℕ) (ok : Sound t) where
 
   -- ---- the blocks that a call's successors stand in are noted
   pub step_gets : (u : ℕ) (owners own : List ℕ) → owners ≡ output_owners t → Owned t own
-      → Within (is_key owners u) 24 (length owners) (get_or own u 0 % 16) 0
-  step_gets u owners own e o =
+      → (i : ℕ) → i < length owners → T (is_key owners u i) → Block (get_or own u 0) (0 + i / 24)
+  step_gets u owners own e o i h q =
       let n = ap length e ∙ long_output_owners t ok.long in
-      within_low (is_key owners u) 24 (length owners) (get_or own u 0)
-      (λ i h. omega (arith, n, ok.counted.outputs-most))
-      (λ i h q.
       let z : get_or (output_owners t) i 0 ≡ u =
       ap (λ l. get_or l i 0) (sym e) ∙ eqb→eq (get_or owners i 0) u q in
-      subst (λ k. Block (get_or own k 0) (i / 24)) z (o.gets i (omega (arith, n))))
+      rw (zero-add (i / 24))
+      (subst (λ k. Block (get_or own k 0) (i / 24)) z (o.gets i (omega (arith, n))))
 
   pub step-sets : (u : ℕ) (owners kinds' own : List ℕ) → owners ≡ input_owners t → Owned t own
-      → Within (are_keys owners u kinds' 0) 24 (length owners) (get_or own u 0 / 16 % 16) 0
-  step-sets u owners kinds' own e o =
+      → (i : ℕ) → i < length owners → T (are_keys owners u kinds' 0 i)
+      → Block (get_or own u 0) (4 + i / 24)
+  step-sets u owners kinds' own e o i h q =
       let n = ap length e ∙ long_input_owners t ok.long in
-      within-high (are_keys owners u kinds' 0) 24 (length owners) (get_or own u 0)
-      (λ i h. omega (arith, n, ok.counted.inputs-most))
-      (λ i h q.
       let (a, b) = T_and (is_key owners u i) (is_key kinds' 0 i) q in
       let z : get_or (input_owners t) i 0 ≡ u =
       ap (λ l. get_or l i 0) (sym e) ∙ eqb→eq (get_or owners i 0) u a in
-      subst (λ k. Block (get_or own k 0) (4 + i / 24)) z (o.sets i (omega (arith, n))))
+      subst (λ k. Block (get_or own k 0) (4 + i / 24)) z (o.sets i (omega (arith, n)))
 
   pub get_sets : (y : ℕ) (sources' mask : List ℕ) → sources' ≡ sources t → Joined t mask
-      → Within (is_key sources' y) 24 (length sources') (get_or mask y 0 / 16 % 16) 0
-  get_sets y sources' mask e o =
+      → (i : ℕ) → i < length sources' → T (is_key sources' y i)
+      → Block (get_or mask y 0) (4 + i / 24)
+  get_sets y sources' mask e o i h q =
       let n = ap length e ∙ long-sources t ok.long in
-      within-high (is_key sources' y) 24 (length sources') (get_or mask y 0)
-      (λ i h. omega (arith, n, ok.counted.inputs-most))
-      (λ i h q.
       let z : get_or (sources t) i 0 ≡ y =
       ap (λ l. get_or l i 0) (sym e) ∙ eqb→eq (get_or sources' i 0) y q in
-      subst (λ k. Block (get_or mask k 0) (4 + i / 24)) z (o.sets i (omega (arith, n))))
+      subst (λ k. Block (get_or mask k 0) (4 + i / 24)) z (o.sets i (omega (arith, n)))
 
   pub set-gets : (x count : ℕ) (pairs' mask : List ℕ) → count ≡ feeds t → pairs' ≡ pairs t
-      → Joined t mask → Within (is_input pairs' x) 32 count (get_or mask x 0 % 16) 0
-  set-gets x count pairs' mask f e o =
-      within_low (is_input pairs' x) 32 count (get_or mask x 0)
-      (λ k h. omega (arith, f, ok.counted.feeds-most))
-      (λ k h q.
+      → Joined t mask → (k : ℕ) → k < count → T (is_input pairs' x k)
+      → Block (get_or mask x 0) (0 + k / 32)
+  set-gets x count pairs' mask f e o k h q =
       let z : pair_input (pairs t) k ≡ x =
       ap (λ l. pair_input l k) (sym e) ∙ eqb→eq (pair_input pairs' k) x q in
-      subst (λ i. Block (get_or mask i 0) (k / 32)) z (o.gets k (omega (arith, f))))
+      rw (zero-add (k / 32))
+      (subst (λ i. Block (get_or mask i 0) (k / 32)) z (o.gets k (omega (arith, f))))

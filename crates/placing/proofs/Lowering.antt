@@ -16,7 +16,7 @@ use Rattle.bits.specs.Laws.{put_has, put-words}
 use Rattle.calls.specs.Hits.{hits}
 use Rattle.placing.specs.Less.{Less}
 use Rattle.placing.specs.Lowered.{once, Lowered}
-use Rattle.placing.proofs.Hits.{hits-none, hits_next, hits_on, hits_miss}
+use Rattle.placing.proofs.Hits.{hits-none, hits_on, hits_miss}
 
 -- what stays as it is frees nothing
 unchanged : (p q : Bool) → p ≡ (p || (q && not q))
@@ -154,19 +154,6 @@ module _ (w ws : List ℕ) (call : ℕ) (h : call < length w) (some : 0 < get_or
     ];
   }
 
--- ---- one call less where a test passes, else nothing
-pub lowered_pass : (p : Bool) (call : ℕ) (high low before after : List ℕ) → T p
-    → Lowered (once call) high low before after
-    → Lowered (λ c. bit (p && eqb call c)) high low before after
-lowered_pass p call high low before after t = rw (is_true p t) (λ l. l)
-
-pub lowered_fail : (p : Bool) (call : ℕ) (w ws : List ℕ) → T (not p) → Words ws
-    → Lowered (λ c. bit (p && eqb call c)) w w ws ws
-unfolding bit
-lowered_fail p call w ws t =
-    lowered_none (λ c. bit (p && eqb call c)) w ws (λ c. rw (is_false p t) refl)
-
--- ---- a loop that lowers one count for each that passes
 module _ (q : ℕ → Bool) (at : ℕ → ℕ) where
   pub lowers_none : (w ws : List ℕ) → Words ws → Lowered (hits q at 0) w w ws ws
   lowers_none w ws ok = lowered_none (hits q at 0) w ws (hits-none q at) ok
@@ -185,17 +172,3 @@ module _ (q : ℕ → Bool) (at : ℕ → ℕ) where
   lowers_miss k high low before after t =
       lowered_as (hits q at k) (hits q at (k + 1)) high low before after
       (λ c. sym (hits_miss q at k c t))
-
-  -- place k, whether or not it passes
-  pub lowers_next : (k : ℕ) (high middle low before between after : List ℕ)
-      → Lowered (hits q at k) high middle before between
-      → Lowered (λ c. bit (q k && eqb (at k) c)) middle low between after
-      → Lowered (hits q at (k + 1)) high low before after
-  lowers_next k high middle low before between after =
-      lowered-both (hits q at k) (λ c. bit (q k && eqb (at k) c)) (hits q at (k + 1)) high middle
-      low before between after (hits_next q at k)
-
-  -- the loop is over
-  pub lowers_all : (n k : ℕ) (high low before after : List ℕ) → k ≤ n → n ≤ k
-      → Lowered (hits q at k) high low before after → Lowered (hits q at n) high low before after
-  lowers_all n k high low before after h g l = let e : k ≡ n = omega arith in rw (← e) l

@@ -1,16 +1,16 @@
 -- One call placed after another: what the loop of the order's procedure keeps.
-use mathlib.Core.Path.{◌≡◌, refl, sym, ap, subst, ◌∙◌}
+use mathlib.Core.Path.{◌≡◌, refl, sym, ap, subst, ◌∙◌, fun_ext}
 use mathlib.Core.Logic.{◌≢◌, ◌⊎◌, inl, inr}
 use mathlib.Core.Bool.{Bool, true, false, not, ◌&&◌, ◌||◌, and-false}
 use mathlib.Core.List.{List, [], ◌∷◌, ◌++◌, append_assoc, append-nil}
 use Prim.Native.Nat.{ℕ, suc, ◌+◌, ◌-◌, ◌≤◌, ◌<◌}
 use native.Mathlib.Omega.{arith}
 use native.Mathlib.Decide.{dec_lt}
-use lib.Dec.{T, eqb, ltb, eqb→eq, nltb→le}
+use lib.Dec.{T, eqb, ltb, eqb→eq, ltb→lt, nltb→le}
 use lib.ListN.{length, get_or, set, take, length-set, length-append}
 use lib.Seq.{get_or-set_same, get_or-set_other, take_at}
 use borrow.Author.Tests.{lt-ltb, le-ltb, ne_eqb}
-use Rattle.search.specs.Truth.{either, clash, is_true, is_false, eq_true, eq_false}
+use Rattle.search.specs.Truth.{T_and, either, clash, is_true, is_false, eq_true, eq_false}
 use Rattle.search.specs.Truth.{same_test}
 use Rattle.search.specs.Sets.{none, add, add-self, add_cases, add-more, add-not}
 use Rattle.search.specs.Least.{least_from, lowest-is, lowest-one}
@@ -29,6 +29,8 @@ use Rattle.calls.proofs.Givens.{into-part, into-none, none-into, into-past}
 use Rattle.orders.specs.Sort.{ready, next_call, sort, placed}
 use Rattle.orders.proofs.Sorted.{Ready→ready, ready→Ready, next-is, sort-step}
 use Rattle.orders.specs.Walk.{among}
+use Rattle.orders.proofs.Remains.{placed-count}
+use Rattle.search.specs.Count.{count, count-full}
 use Rattle.placing.specs.Waiting.{waits, Waiting}
 use Rattle.placing.specs.Lowered.{Lowered}
 use Rattle.placing.specs.Placing.{call_count, placed_of}
@@ -91,6 +93,13 @@ module _ (s : Shape) (ok : Wired s) (done : ℕ → Bool) (counts bits : List �
   none_below c r h l e =
       subst (λ b. T (not b)) (bit-ready c h)
       ((lowest-is (has bits) 256).below c (omega (arith, e)))
+
+  -- a bit stands for one of the N calls
+  pub lowest-small : (r : ℕ) → r ≡ least_from (has bits) 256 0 → r < 256 → r < total s
+  lowest-small r e h =
+      let t : T (has bits r) = subst (λ k. T (has bits k)) (sym e)
+      ((lowest-is (has bits) 256).passes (omega (arith, e))) in
+      ltb→lt r (total s) (T_and (ltb r (total s)) (eqb (waits s done r) 0) (subst T (w.bits r) t)).0
 
   pub lowest-next : (r : ℕ) → r ≡ least_from (has bits) 256 0 → r < total s → total s ≤ 224
       → r ≡ next_call (total s) (precedes s) done
@@ -219,6 +228,20 @@ module _ (t : List ℕ) where
           },
         ),
       )
+
+      -- where all calls are placed, none is ready
+      pub stage_idle : length l ≡ call_count t → has bits ≡ none
+      unfolding placed_of waits
+      stage_idle full =
+          let N = call_count t in
+          let all : count (among l) N ≡ N =
+          rw (sym stage_all)
+          (placed-count N (precedes (shape_of t)) ∙ ap length stage_all ∙ full) in
+          fun_ext (λ c. g.waiting.bits c ∙ elim (dec_lt c N) [
+            | yes h ↦
+                rw (is_true (among l c) (count-full (among l) N all c h)) (and-false (ltb c N))
+            | no h ↦ rw (le-ltb c N (omega arith))
+          ])
 
 -- what stays as it is frees nothing
 clear : (p : Bool) → (p && not p) ≡ false

@@ -2,8 +2,8 @@
 use mathlib.Core.Path.{◌≡◌, refl, sym, ap, ap₂, subst, ◌∙◌, fun_ext}
 use mathlib.Core.Logic.{inl, inr}
 use mathlib.Core.Bool.{Bool, true, false, not, ◌||◌}
-use mathlib.Core.List.{List, [], ◌∷◌, ◌++◌, append_assoc, append-nil}
-use Prim.Native.Nat.{ℕ, zero, suc, ◌+◌, ◌-◌, ◌≤◌, ◌<◌}
+use mathlib.Core.List.{List, [], ◌∷◌, ◌++◌, append_assoc}
+use Prim.Native.Nat.{ℕ, zero, suc, ◌-◌, ◌≤◌, ◌<◌}
 use native.Mathlib.Omega.{arith}
 use native.Mathlib.Nat.{sub-zero}
 use native.Mathlib.Decide.{dec_lt}
@@ -176,18 +176,6 @@ module _ (bytes : List ℕ) (count last : ℕ) (out₀ : List ℕ) where
     pub made : chain bytes count last ≡ chain bytes n c ++ take (count - n) (drop n out)
     pub kept : drop count out ≡ drop count out₀
     pub calls : (x : ℕ) → T (among (chain bytes n c) x) → x < 224
-
-  pub backing_starts : ((x : ℕ) → T (among (chain bytes count last) x) → x < 224)
-      → Backing count last out₀
-  backing_starts calls = record {
-    few = omega arith;
-    long = refl;
-    made =
-        let e : count - count ≡ 0 = omega arith in
-        rw e (sym (append-nil (chain bytes count last)));
-    kept = refl;
-    calls = calls;
-  }
 
   module _ (n c : ℕ) (out : List ℕ) (some : 0 < n) (g : Backing n c out)
       (room : count ≤ length out₀) where

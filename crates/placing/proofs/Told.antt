@@ -1,19 +1,11 @@
 -- From a call that the code has told apart back to its number.
 use mathlib.Core.Path.{◌≡◌, ap, ◌∙◌}
-use mathlib.Core.List.{List}
 use Prim.Native.Nat.{ℕ, ◌<◌}
 use native.Mathlib.Omega.{arith}
 use Rattle.table.specs.Shape.{Shape, total}
-use Rattle.table.specs.Packed.{units, outputs, inputs, shape_of}
-use Rattle.calls.specs.declared.Call.{Call}
 use Rattle.calls.specs.declared.Call.TheVariants.{Step, Get, Set, NoCall}
-use Rattle.calls.specs.Number.{call_in, call_of, get_no, set_no}
+use Rattle.calls.specs.Number.{call_of, get_no, set_no}
 use Rattle.calls.specs.Numbers.{is-step, is_get, is_set, View, at-step, at_get, at_set, view}
-
--- the call told by the counts is that of the table
-pub told_as : (t : List ℕ) (c u y x : ℕ) (k : Call) → u ≡ units t → y ≡ outputs t → x ≡ inputs t
-    → k ≡ call_in u y x c → k ≡ call_of (shape_of t) c
-told_as t c u y x k e f g h = h ∙ rw (e, f, g)
 
 module _ (s : Shape) (c : ℕ) (h : c < total s) where
   pub told-step : (u : ℕ) → call_of s c ≡ Step u → (u < s.units) × (u ≡ c)

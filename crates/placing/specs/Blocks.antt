@@ -1,5 +1,5 @@
 -- The blocks of a part in which a key stands, a bit for each.
-use Rattle.std.specs.Prelude.{◌≡◌, Bool, List, ℕ, ◌+◌, ◌-◌, ◌/◌, ◌≤◌, ◌<◌, T, length, get_or}
+use Rattle.std.specs.Prelude.{◌≡◌, List, ℕ, ◌+◌, ◌/◌, ◌<◌, length, get_or}
 use Rattle.bits.specs.Digits.{bit}
 use Rattle.table.specs.Packed.{outputs, inputs, feeds, output_owners, input_owners}
 use Rattle.table.specs.Packed.{sources, pairs, pair_input}
@@ -13,10 +13,6 @@ pub record Noting (key : ℕ → ℕ) (size low n : ℕ) (old new : List ℕ) : 
   pub long : length new ≡ length old
   pub kept : (k b : ℕ) → Block (get_or old k 0) b → Block (get_or new k 0) b
   pub noted : (i : ℕ) → i < n → Block (get_or new (key i) 0) (low + i / size)
-
--- each place that passes, from a place on and below n, stands in a block noted
-abbrev pub Within : (ℕ → Bool) → ℕ → ℕ → ℕ → ℕ → Type 0
-Within q size n notes from = (i : ℕ) → from ≤ i → i < n → T (q i) → Block notes ((i - from) / size)
 
 -- ---- what is noted of a table: at each unit the blocks of 24 outputs and of 24 inputs that have
 -- one of its own; at each input and output the blocks of 32 feeds and of 24 inputs that name it

@@ -1,7 +1,10 @@
 pub mod Less
+pub mod Row
 pub mod Blocks
 pub mod Lowered
+pub mod Lowers
 pub mod Waiting
 pub mod Placing
+pub mod Refusal
 pub mod Thread
 pub mod Placed

@@ -1,6 +1,7 @@
 -- What is noted of the outputs stays where the inputs are noted.
+use borrow.Author.Rules.{rules}
 use native.Mathlib.Omega.{arith}
-use mathlib.Core.Path.{ap, ◌∙◌}
+use mathlib.Core.Path.{ap}
 use lib.ListN.{length}
 use Rattle.table.specs.Layout.{long_output_owners, long_input_owners}
 use Rattle.placing.proofs.Marked.{owned}
@@ -8,41 +9,62 @@ use Rattle.placing.proofs.place.note_owners.Goals as goal
 
 pub note-requires : goal.note-requires
 note-requires c =
-    let n = ap length c.output_owners.ensures ∙ long_output_owners c.args.table.now
-    c.requires.sound.long in
-    record {
-      low_bound = omega arith;
-      keys_len_bound = omega (arith, n, c.requires.sound.counted.outputs-most);
-      notes_len_bound = omega (arith, c.requires.own_len);
-      by_index = (λ i h. rw c.output_owners.ensures
-          (omega (
-            arith,
-            c.requires.own_len,
-            c.requires.sound.counted.units-most,
-            c.requires.sound.wired.output-owned i (omega (arith, n)),
-          )));
-    }
+    let t = c.args.table.bytes.now in
+    let ok = c.args.table.sound in
+    let n = long_output_owners t ok.long in
+    let e = c.output_count.ensures.value in
+    λ k h. (
+      search rules fits 20000 depth 12,
+      (
+        search rules,
+        (
+          search rules,
+          (
+            λ i l κs r p q u o f. omega (arith, n, e, ap length o.ensures),
+            (
+              λ i r l p. search rules,
+              λ i l. omega (
+                arith,
+                ok.counted.units-most,
+                ok.wired.output-owned i (omega (arith, e)),
+              ),
+            ),
+          ),
+        ),
+      ),
+    )
 
 pub note-requires-2 : goal.note-requires-2
 note-requires-2 c =
-    let n = ap length c.input_owners.ensures ∙ long_input_owners c.args.table.now
-    c.requires.sound.long in
-    record {
-      low_bound = omega arith;
-      keys_len_bound = omega (arith, n, c.requires.sound.counted.inputs-most);
-      notes_len_bound = omega (arith, c.requires.own_len, c.note.ensures.long);
-      by_index = (λ i h. rw c.input_owners.ensures
-          (omega (
-            arith,
-            c.requires.own_len,
-            c.note.ensures.long,
-            c.requires.sound.counted.units-most,
-            c.requires.sound.wired.input-owned i (omega (arith, n)),
-          )));
-    }
+    let t = c.args.table.bytes.now in
+    let ok = c.args.table.sound in
+    let n = long_input_owners t ok.long in
+    let e = c.input_count.ensures.value in
+    λ k h. (
+      search rules fits 20000 depth 12,
+      (
+        search rules,
+        (
+          search rules,
+          (
+            λ i l κs r p q u o f. omega (arith, n, e, ap length o.ensures),
+            (
+              λ i r l p. search rules,
+              λ i l. omega (
+                arith,
+                c.note.ensures.long,
+                ok.counted.units-most,
+                ok.wired.input-owned i (omega (arith, e)),
+              ),
+            ),
+          ),
+        ),
+      ),
+    )
 
 pub returns : goal.returns
 returns c =
-    owned c.args.table.now c.requires.sound _ _ _ _ _ c.output_owners.ensures
-    c.input_owners.ensures c.requires.own_len
-    c.note.ensures c.note-2.ensures
+    let y = c.output_count.ensures.value in
+    let x = c.input_count.ensures.value in
+    owned c.args.table.bytes.now c.args.own.now c.note.new.notes c.note-2.new.notes
+    (search rules) (rw y at c.note.ensures) (rw x at c.note-2.ensures)

@@ -2,104 +2,107 @@
 use native.Mathlib.Omega.{arith}
 use mathlib.Core.Path.{◌≡◌, refl, ap, sym, ◌∙◌}
 use mathlib.Core.List.{[], ◌∷◌, ◌++◌}
-use Prim.Native.Nat.{◌+◌, ◌-◌, ◌<◌}
+use Prim.Native.Nat.{◌+◌, ◌-◌}
 use lib.ListN.{length, take, length-append}
 use Rattle.table.specs.Packed.{shape_of}
 use Rattle.table.proofs.Checked.{few-calls}
-use Rattle.bits.specs.Laws.{drop-words}
 use Rattle.calls.specs.Precedence.{precedes}
+use Rattle.orders.specs.Sort.{sort}
 use Rattle.orders.proofs.Sorted.{sort-stop, sort-none}
 use Rattle.orders.specs.Walk.{among}
 use Rattle.placing.specs.Placing.{call_count, placed_of}
-use Rattle.placing.proofs.Stage.{lowest-next, lowest-none, stage_starts}
-use Rattle.placing.proofs.Stage.{stage_front, stage_stands, stage_long, stage_room, stage_on}
+use Rattle.placing.proofs.Stage.{lowest-small, lowest-next, lowest-none, stage_starts}
+use Rattle.placing.proofs.Stage.{stage_front, stage_stands, stage_idle, stage_room, stage_on}
+use Rattle.placing.proofs.Queued.{none-found}
 use Rattle.placing.proofs.place.place_ready.Goals as goal
 
-pub loop-k-init : goal.loop-k-init
-loop-k-init c =
-    (refl, stage_starts c.args.table.now c.args.waiting.now c.args.ready.now c.requires.waiting)
+pub loop-count-init : goal.loop-count-init
+loop-count-init c =
+    (refl, stage_starts c.args.noted.table.bytes.now _ _ c.requires)
 
-pub returns-then-count-call : goal.returns-then-count-call
-returns-then-count-call c =
-    let over = lowest-none (shape_of c.args.table.now) c.requires.sound.wired
-    (among (take c.loop-k.k (placed_of c.args.table.now))) c.loop-k.waiting c.loop-k.ready
-    c.loop-k.invariant.1.waiting c.lowest-call.result c.lowest-call.ensures
-    (omega (arith, c.requires.count_value, c.if-count-call.true)) in
-    let (n, rest) = stage_stands c.args.table.now (take c.loop-k.k (placed_of c.args.table.now))
-    c.loop-k.waiting c.loop-k.ready c.loop-k.last c.loop-k.invariant.1
-    (sort-stop (call_count c.args.table.now) (precedes (shape_of c.args.table.now)) _ _
-    (omega (arith, over))) in
-    record { count_value_2 = sym c.loop-k.invariant.0 ∙ n; last_value = rest.0; standing = rest.1 }
+pub returns-in_default : goal.returns-in_default
+returns-in_default c =
+    let t = c.args.noted.table.bytes.now in
+    let ok = c.args.noted.table.sound in
+    let l = take c.loop-count.count (placed_of t) in
+    let g = c.loop-count.invariant.1 in
+    let over = lowest-none (shape_of t) ok.wired (among l) _ _ g.waiting 256
+    (sym c.in_default.ensures) (omega (arith, few-calls t ok)) in
+    let (n, rest) = stage_stands t l _ _ _ g
+    (sort-stop (call_count t) (precedes (shape_of t)) _ _ (omega (arith, over))) in
+    record {
+      count_value = sym c.loop-count.invariant.0 ∙ n;
+      last_value = rest.0;
+      standing = rest.1;
+      none_ready = none-found c.loop-count.queue.ready.words c.in_default.ensures;
+    }
 
-pub bounds-waiting-call : goal.bounds-waiting-call
-bounds-waiting-call c =
+pub bounds-queue-call : goal.bounds-queue-call
+bounds-queue-call c =
+    let t = c.args.noted.table.bytes.now in
+    let ok = c.args.noted.table.sound in
+    let (small, e) = c.in-Some.ensures in
     omega (
       arith,
-      c.requires.count_value,
-      few-calls c.args.table.now c.requires.sound,
-      c.if-count-call.false,
+      few-calls t ok,
+      lowest-small (shape_of t) ok.wired _ _ _ c.loop-count.invariant.1.waiting c.in-Some.call
+          (sym e) small,
     )
-
-pub overflow_cast-last : goal.overflow_cast-last
-overflow_cast-last c =
-    record {
-      fits = omega (
-        arith,
-        c.requires.count_value,
-        few-calls c.args.table.now c.requires.sound,
-        c.if-count-call.false,
-      );
-    }
 
 pub release-requires : goal.release-requires
 release-requires c =
-    let h : c.lowest-call.result < call_count c.args.table.now = omega
-    (arith, c.requires.count_value, c.if-count-call.false) in
-    let few = few-calls c.args.table.now c.requires.sound in
-    let e = lowest-next (shape_of c.args.table.now) c.requires.sound.wired
-    (among (take c.loop-k.k (placed_of c.args.table.now))) c.loop-k.waiting c.loop-k.ready
-    c.loop-k.invariant.1.waiting c.lowest-call.result c.lowest-call.ensures h few in
-    record {
-      sound = c.requires.sound;
-      call_bound = h;
-      owned = c.requires.owned;
-      joined = c.requires.joined;
-      waiting_len = stage_long c.args.table.now c.requires.sound
-          (take c.loop-k.k (placed_of c.args.table.now)) c.loop-k.waiting c.loop-k.ready
-          c.loop-k.last c.loop-k.invariant.1 c.lowest-call.result e h;
-      words = rw c.take_out.ensures
-          (drop-words c.loop-k.ready c.lowest-call.result (omega arith)
-          c.loop-k.invariant.1.waiting.words);
-      by_index = stage_room c.args.table.now c.requires.sound
-          (take c.loop-k.k (placed_of c.args.table.now)) c.loop-k.waiting c.loop-k.ready
-          c.loop-k.last c.loop-k.invariant.1 c.lowest-call.result e h;
-    }
+    let t = c.args.noted.table.bytes.now in
+    let ok = c.args.noted.table.sound in
+    let l = take c.loop-count.count (placed_of t) in
+    let g = c.loop-count.invariant.1 in
+    let (small, f) = c.in-Some.ensures in
+    let h = lowest-small (shape_of t) ok.wired (among l) _ _ g.waiting c.in-Some.call (sym f) small
+    in
+    let e = lowest-next (shape_of t) ok.wired (among l) _ _ g.waiting c.in-Some.call (sym f) h
+    (few-calls t ok) in
+    record { call_bound = h; enough = stage_room t ok l _ _ _ g c.in-Some.call e h }
 
-pub loop-k-preserved : goal.loop-k-preserved
-loop-k-preserved c =
-    let h : c.lowest-call.result < call_count c.args.table.now = omega
-    (arith, c.requires.count_value, c.if-count-call.false) in
-    let few = few-calls c.args.table.now c.requires.sound in
-    let l = take c.loop-k.k (placed_of c.args.table.now) in
-    let e = lowest-next (shape_of c.args.table.now) c.requires.sound.wired (among l)
-    c.loop-k.waiting c.loop-k.ready c.loop-k.invariant.1.waiting c.lowest-call.result
-    c.lowest-call.ensures h few in
-    let next = stage_on c.args.table.now c.requires.sound l c.loop-k.waiting c.loop-k.ready
-    c.loop-k.last c.loop-k.invariant.1 c.lowest-call.result e h _ _
-    (rw c.take_out.ensures at c.release.ensures)
-    (omega (arith, c.loop-k.invariant.0, c.requires.count_value, c.loop-k-test.true)) in
-    let n : length (l ++ (c.lowest-call.result ∷ [])) ≡ c.loop-k.k + 1 = length-append l
-    (c.lowest-call.result ∷ []) ∙ omega (arith, c.loop-k.invariant.0) in
-    let front = stage_front c.args.table.now (l ++ (c.lowest-call.result ∷ [])) _ _
-    c.lowest-call.result (c.loop-k.k + 1) next n in
+pub loop-count-preserved : goal.loop-count-preserved
+loop-count-preserved c =
+    let t = c.args.noted.table.bytes.now in
+    let ok = c.args.noted.table.sound in
+    let l = take c.loop-count.count (placed_of t) in
+    let g = c.loop-count.invariant.1 in
+    let call = c.in-Some.call in
+    let (small, f) = c.in-Some.ensures in
+    let h = lowest-small (shape_of t) ok.wired (among l) _ _ g.waiting call (sym f) small in
+    let e = lowest-next (shape_of t) ok.wired (among l) _ _ g.waiting call (sym f) h
+    (few-calls t ok) in
+    let next = stage_on t ok l _ _ _ g call e h _ _ (rw c.take_out.ensures at c.release.ensures)
+    (omega (
+      arith,
+      c.loop-count.invariant.0,
+      c.call_count-calls.ensures.value,
+      c.loop-count-test.true,
+    )) in
+    let n : length (l ++ (call ∷ [])) ≡ c.loop-count.count + 1 = length-append l (call ∷ [])
+    ∙ omega (arith, c.loop-count.invariant.0) in
+    let front = stage_front t (l ++ (call ∷ [])) _ _ call (c.loop-count.count + 1) next n in
     (ap length front ∙ n, rw front next)
 
 pub returns : goal.returns
 returns c =
-    let none : call_count c.args.table.now - length (take c.loop-k.k (placed_of c.args.table.now))
-    ≡ 0 = omega (arith, c.loop-k.invariant.0, c.requires.count_value, c.loop-k-test.false) in
-    let (n, rest) = stage_stands c.args.table.now (take c.loop-k.k (placed_of c.args.table.now))
-    c.loop-k.waiting c.loop-k.ready c.loop-k.last c.loop-k.invariant.1
-    (rw none (sort-none (call_count c.args.table.now) (precedes (shape_of c.args.table.now))
-    (among (take c.loop-k.k (placed_of c.args.table.now))))) in
-    record { count_value_2 = sym c.loop-k.invariant.0 ∙ n; last_value = rest.0; standing = rest.1 }
+    let t = c.args.noted.table.bytes.now in
+    let l = take c.loop-count.count (placed_of t) in
+    let all : c.loop-count.count ≡ call_count t = omega (
+      arith,
+      c.call_count-calls.ensures.value,
+      c.loop-count-test.false,
+      c.loop-count.auto.count-end,
+    ) in
+    let none : call_count t - length l ≡ 0 = omega (arith, c.loop-count.invariant.0) in
+    let over : sort (call_count t) (precedes (shape_of t)) (call_count t - length l) (among l)
+    ≡ [] = rw none (sort-none (call_count t) (precedes (shape_of t)) (among l)) in
+    let (n, rest) = stage_stands t l _ _ _ c.loop-count.invariant.1 over in
+    record {
+      count_value = c.call_count-calls.ensures.value ∙ sym all ∙ sym c.loop-count.invariant.0 ∙ n;
+      last_value = rest.0;
+      standing = rest.1;
+      none_ready = stage_idle t l _ _ _ c.loop-count.invariant.1 over
+          (c.loop-count.invariant.0 ∙ all);
+    }
