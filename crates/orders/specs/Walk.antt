@@ -19,7 +19,7 @@ module _ (N : ℕ) (pred : ℕ → ℕ → Bool) (done : ℕ → Bool) where
   lowest_before c = least_from (lacks pred done c) N 0
 
   -- on to a call where the walk has been; seen has the newest first, so in precedence order;
-  -- n bounds the visits: N + 1 do where no call is ready and one remains (`walk_Meets` of Again)
+  -- n bounds the visits: N + 1 do where no call is ready and one remains (`walk_meets` of Again)
   unfoldable pub walk : ℕ → List ℕ → ℕ → List ℕ
   walk zero seen c = []
   walk (suc n) seen c = cond (among seen c) (upto c seen) (walk n (c ∷ seen) (lowest_before c))

@@ -3,11 +3,11 @@ use mathlib.Core.Path.{◌≡◌, refl, subst, fun_ext}
 use mathlib.Core.Logic.{inl, inr}
 use mathlib.Core.Bool.{Bool, true, false, not, ◌||◌}
 use mathlib.Core.List.{List}
-use Prim.Native.Nat.{ℕ, zero, suc, ◌≤◌, ◌<◌}
+use Prim.Native.Nat.{ℕ, zero, suc, ◌<◌}
 use native.Mathlib.Omega.{arith}
 use native.Mathlib.Decide.{dec_lt}
 use lib.Dec.{T, eqb, ltb}
-use lib.ListN.{length, get_or}
+use lib.ListN.{length}
 use borrow.Author.Tests.{lt-ltb, le-ltb}
 use Rattle.search.specs.Truth.{T_and, and_T, either, clash}
 use Rattle.search.specs.Truth.{is_true, is_false}
@@ -27,7 +27,6 @@ use Rattle.orders.proofs.Walked.{Stuck}
 use Rattle.orders.proofs.Remains.{placed-stuck}
 use Rattle.placing.specs.Placing.{call_count, placed_of}
 use Rattle.sorter.specs.Keeps.{keeps_step}
-use Rattle.sorter.specs.Lows.{LowSteps}
 use Rattle.sorter.proofs.Before.{set-source}
 
 module _ (N : ℕ) (pred : ℕ → ℕ → Bool) (inside : (a c : ℕ) → T (pred a c) → a < N) where
@@ -73,12 +72,6 @@ module _ (N : ℕ) (pred : ℕ → ℕ → Bool) (inside : (a c : ℕ) → T (pr
       alone : (p : Bool) → (p || false) ≡ p
       alone true = refl
       alone false = refl
-
--- a low is X at most
-pub step-low : (t lows : List ℕ) (u : ℕ) → u < units t
-    → LowSteps t (among (placed_of t)) lows → get_or lows u 0 ≤ inputs t
-step-low t lows u h g =
-    rw (g.each u h) (lowest-is (keeps_step (shape_of t) u (among (placed_of t))) (inputs t)).high
 
 -- ---- where placing has stopped
 module _ (t : List ℕ) (ok : Sound t) (early : length (placed_of t) < call_count t) where

@@ -1,17 +1,20 @@
 -- The passes before the walk: what each byte holds once some inputs or feeds were passed.
-use mathlib.Core.Path.{◌≡◌, refl, sym, subst, ◌∙◌}
+use mathlib.Core.Path.{◌≡◌, refl, sym, ap, subst, ◌∙◌}
 use mathlib.Core.Bool.{Bool, not}
-use mathlib.Core.List.{List}
-use Prim.Native.Nat.{ℕ, ◌+◌, ◌-◌, ◌≤◌, ◌<◌}
+use mathlib.Core.List.{List, ◌++◌}
+use Prim.Native.Nat.{ℕ, ◌+◌, ◌-◌, ◌*◌, ◌≤◌, ◌<◌}
 use native.Mathlib.Omega.{arith}
 use native.Mathlib.Decide.{ℕ_discrete}
 use lib.Dec.{T, not_T}
-use lib.ListN.{length, get_or, set, length-set}
-use lib.Seq.{get_or-set_same, get_or-set_other}
+use lib.ListN.{length, get_or, set, drop, replicate, length-set}
+use lib.ListN.{length-drop, length-append, get_or-append}
+use lib.Seq.{get_or-set_same, get_or-set_other, drop-append_seam}
+use Rattle.std.proofs.lemmas.List.{get_or-replicate, length-replicate, get_or-drop, drop-drop}
 use Rattle.search.specs.Truth.{T_and, and_T, clash}
 use Rattle.search.specs.Least.{least_from, lowest-is, lowest-one}
 use Rattle.table.specs.Shape.{Shape}
 use Rattle.table.specs.Packed.{units, outputs, inputs, feeds, shape_of}
+use Rattle.table.specs.Packed.{pair_input, pair_output}
 use Rattle.table.specs.Sound.{Sound}
 use Rattle.calls.specs.Number.{set_no}
 use Rattle.calls.specs.Precedence.{has_kind}
@@ -19,28 +22,6 @@ use Rattle.calls.proofs.Neighbours.{kind-found, found-kind}
 use Rattle.sorter.specs.Keeps.{keeps_step}
 use Rattle.sorter.specs.Lows.{LowSteps, LowGets}
 use Rattle.sorter.proofs.Before.{Best, best_starts, best_lower, best_stays, best_ends}
-
--- ---- one value everywhere
--- the first i of n bytes hold the value
-pub record Filled (n value : ℕ) (bytes : List ℕ) (i : ℕ) : Type 0 where
-  pub long : length bytes ≡ n
-  pub most : i ≤ n
-  pub all : (j : ℕ) → j < i → get_or bytes j 0 ≡ value
-
-pub filled_starts : (n value : ℕ) (bytes : List ℕ) → length bytes ≡ n → Filled n value bytes 0
-filled_starts n value bytes l =
-    record { long = l; most = omega arith; all = λ j h. absurd (omega arith) }
-
-pub filled_on : (n value : ℕ) (bytes : List ℕ) (i : ℕ) → i < n → Filled n value bytes i
-    → Filled n value (set bytes i value) (i + 1)
-filled_on n value bytes i h f = record {
-  long = length-set bytes i value ∙ f.long;
-  most = omega arith;
-  all = λ j g. elim (ℕ_discrete j i) [
-    | yes e ↦ rw e (get_or-set_same bytes i value 0 (omega (arith, f.long)))
-    | no e ↦ get_or-set_other bytes i j value 0 e ∙ f.all j (omega arith)
-  ];
-}
 
 -- ---- the lowest input of a unit, from the last down
 module _ (s : Shape) (u : ℕ) (done : ℕ → Bool) where
@@ -88,12 +69,11 @@ pub record Steps (t : List ℕ) (done : ℕ → Bool) (lows : List ℕ) (x : ℕ
   pub each : (u : ℕ) → u < units t → From (shape_of t) u done x (get_or lows u 0)
 
 module _ (t : List ℕ) (ok : Sound t) (done : ℕ → Bool) where
-  pub steps_start : (lows : List ℕ) (i x : ℕ) → x ≡ inputs t → 32 ≤ i → Filled 32 x lows i
-      → Steps t done lows x
-  steps_start lows i x e h f = record {
-    long = f.long;
+  pub steps_start : (x : ℕ) → x ≡ inputs t → Steps t done (replicate 32 x) x
+  steps_start x e = record {
+    long = length-replicate 32 x;
     within = omega arith;
-    each = λ u g. rw (f.all u (omega (arith, ok.counted.units-most)), e)
+    each = λ u g. rw (get_or-replicate 32 u x 0 (omega (arith, ok.counted.units-most)), e)
         (from_starts (shape_of t) u done);
   }
 
@@ -160,9 +140,8 @@ module _ (t : List ℕ) (ok : Sound t) (done : ℕ → Bool) where
       ];
     }
 
-  pub steps_end : (lows : List ℕ) (x : ℕ) → x ≤ 0 → Steps t done lows x → LowSteps t done lows
-  steps_end lows x h g =
-      let e : x ≡ 0 = omega arith in
+  pub steps_end : (lows : List ℕ) (x : ℕ) → x ≡ 0 → Steps t done lows x → LowSteps t done lows
+  steps_end lows x e g =
       record {
         long = g.long;
         each = λ u l. from-ends (shape_of t) u done (get_or lows u 0)
@@ -170,6 +149,29 @@ module _ (t : List ℕ) (ok : Sound t) (done : ℕ → Bool) where
       }
 
 -- ---- the lowest input of an output, feed by feed
+-- a pair that stands at the front of those from feed k on
+pub pair_is : (ps rest pair next : List ℕ) (n k : ℕ) → length ps ≡ 2 * n → rest ≡ drop (2 * k) ps
+    → rest ≡ pair ++ next → length pair ≡ 2
+    → (k < n) × (get_or pair 0 0 ≡ pair_input ps k) × (get_or pair 1 0 ≡ pair_output ps k)
+    × (next ≡ drop (2 * (k + 1)) ps)
+pair_is ps rest pair next n k l r s e =
+    let both : drop (2 * k) ps ≡ pair ++ next = sym r ∙ s in
+    let long = ap length both in (
+      omega (arith, length-drop (2 * k) ps, length-append pair next, long),
+      sym (get_or-append pair next 0 0 (omega arith))
+          ∙ ap (λ l. get_or l 0 0) (sym both)
+          ∙ get_or-drop (2 * k) ps 0 0
+          ∙ ap (λ n. get_or ps n 0) (omega arith),
+      sym (get_or-append pair next 0 1 (omega arith))
+          ∙ ap (λ l. get_or l 1 0) (sym both)
+          ∙ get_or-drop (2 * k) ps 1 0,
+      sym (drop-append_seam pair next)
+          ∙ ap (λ n. drop n (pair ++ next)) e
+          ∙ ap (drop 2) (sym both)
+          ∙ drop-drop 2 (2 * k) ps
+          ∙ ap (λ n. drop n ps) (omega arith),
+    )
+
 -- the bytes of all outputs once k feeds were passed
 pub record Gets (t : List ℕ) (done : ℕ → Bool) (lows : List ℕ) (k : ℕ) : Type 0 where
   pub long : length lows ≡ 96
@@ -177,12 +179,11 @@ pub record Gets (t : List ℕ) (done : ℕ → Bool) (lows : List ℕ) (k : ℕ)
   pub each : (y : ℕ) → y < outputs t → Best (shape_of t) y done k (get_or lows y 0)
 
 module _ (t : List ℕ) (ok : Sound t) (done : ℕ → Bool) where
-  pub gets-start : (lows : List ℕ) (i x : ℕ) → x ≡ inputs t → 96 ≤ i → Filled 96 x lows i
-      → Gets t done lows 0
-  gets-start lows i x e h f = record {
-    long = f.long;
+  pub gets-start : (x : ℕ) → x ≡ inputs t → Gets t done (replicate 96 x) 0
+  gets-start x e = record {
+    long = length-replicate 96 x;
     within = omega arith;
-    each = λ y g. rw (f.all y (omega (arith, ok.counted.outputs-most)), e)
+    each = λ y g. rw (get_or-replicate 96 y x 0 (omega (arith, ok.counted.outputs-most)), e)
         (best_starts (shape_of t) y done);
   }
 

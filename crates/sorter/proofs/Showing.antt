@@ -1,77 +1,20 @@
--- The cycle that the walk met, as a part of its path; and what it is turned to.
-use mathlib.Core.Path.{◌≡◌, sym, ap, subst, ◌∙◌}
-use mathlib.Core.List.{List}
-use Prim.Native.Nat.{ℕ, suc, ◌+◌, ◌-◌, ◌≤◌, ◌<◌}
-use native.Mathlib.Omega.{arith}
-use native.Mathlib.Decide.{dec_lt}
-use lib.Dec.{T, eqb, eqb→eq}
-use lib.ListN.{length, get_or, take, drop, length-drop}
-use lib.Seq.{length-take-le, get_or-take, take_all}
-use Rattle.search.specs.Truth.{clash, eq_true}
-use Rattle.search.specs.Least.{least_from, lowest-is}
+-- The cycle that the walk meets, where not all calls are placed; and what it is turned to.
+use Rattle.std.proofs.Common.{◌≡◌, refl, sym, subst, ◌∙◌, arith, List, ℕ, ◌≤◌, ◌<◌, T, not, length}
+use Rattle.std.proofs.Common.{get_or, Bool, MatchOption, Option, Some, None, IsSome}
+use Rattle.search.specs.Truth.{clash}
+use Rattle.search.specs.Least.{least_from}
+use Rattle.search.specs.Front.{fronted}
 use Rattle.table.specs.Packed.{shape_of}
 use Rattle.calls.specs.Precedence.{precedes}
-use Rattle.orders.specs.Walk.{among, upto, met}
-use Rattle.orders.specs.Turn.{turn, lowest_of, lowest_place, shown}
-use Rattle.orders.proofs.Walked.{upto_take}
+use Rattle.orders.specs.Walk.{among, met, lowest_left}
+use Rattle.orders.specs.Turn.{turn, lowest_place, shown}
 use Rattle.orders.specs.Turned.{turn-length, lowest_place-is, at-among}
-use Rattle.orders.proofs.Remains.{placed-calls}
-use Rattle.placing.specs.Less.{is_key}
+use Rattle.orders.specs.Cycle.{Cycle}
+use Rattle.orders.specs.Once.{once-most}
+use Rattle.orders.proofs.Again.{placed-meets, met-cycle, met-once}
+use Rattle.orders.proofs.Remains.{placed-calls, left_one}
 use Rattle.placing.specs.Placing.{call_count, placed_of}
-use Rattle.sorter.specs.Trail.{Walked}
 use Rattle.sorter.specs.Ordering.{shown_of}
-
--- the first place of a call in a list that has it
-pub place_in : (l : List ℕ) (c : ℕ) → T (among l c)
-    → least_from (is_key l c) (length l) 0 < length l
-place_in l c t = elim (dec_lt (least_from (is_key l c) (length l) 0) (length l)) [
-  | yes p ↦ p
-  | no p ↦
-      (let (i, h, e) = at-among c l t in
-      absurd (clash (is_key l c i) (eq_true _ _ e)
-      ((lowest-is (is_key l c) (length l)).below i (omega arith))))
-]
-
--- ---- the front of what was seen, through a call met again, from its lowest call on
-module _ (seen : List ℕ) (c n : ℕ) (has : T (among seen c))
-    (calls : (i : ℕ) → i < length seen → get_or seen i 0 < n) (p : ℕ)
-    (e : p ≡ least_from (is_key seen c) (length seen) 0) where
-  pub met-fits : p + 1 ≤ length seen
-  met-fits = omega (arith, e, place_in seen c has)
-
-  pub met-is : upto c seen ≡ take (p + 1) seen
-  met-is =
-      let l = lowest-is (is_key seen c) (length seen) in
-      let q = place_in seen c has in
-      let n : suc p ≡ p + 1 = omega arith in
-      upto_take seen c p (omega arith) (eqb→eq _ _ (rw e (l.passes q)))
-      (λ i k same. clash (is_key seen c i) (eq_true _ _ same) (l.below i (rw (← e) k)))
-      ∙ ap (λ k. take k seen) n
-
-  pub met-long : length (take (p + 1) seen) ≡ p + 1
-  met-long = length-take-le (p + 1) seen met-fits
-
-  -- the lowest call stands at the first place of that number
-  module _ (low first : ℕ) (f : low ≡ lowest_of n (take (p + 1) seen))
-      (g : first ≡ least_from (is_key (take (p + 1) seen) low) (length (take (p + 1) seen)) 0) where
-    first-is : first ≡ lowest_place n (take (p + 1) seen)
-    unfolding lowest_place
-    first-is = g ∙ rw f
-
-    pub first_in : first < length (take (p + 1) seen)
-    first_in =
-        rw first-is
-        (lowest_place-is n (take (p + 1) seen) (omega (arith, met-long))
-        (λ i k. rw (get_or-take (p + 1) seen i 0 (omega (arith, met-long)))
-        (calls i (omega (arith, met-long, met-fits))))).0
-
-    pub turned_is : turn first (take (p + 1) seen)
-        ≡ turn (lowest_place n (upto c seen)) (upto c seen)
-    turned_is = rw (met-is, first-is)
-
-    pub turned_long : p + 1 ≡ length (turn (lowest_place n (upto c seen)) (upto c seen))
-    turned_long =
-        sym met-long ∙ sym (turn-length first (take (p + 1) seen) first_in) ∙ ap length turned_is
 
 -- ---- the thread holds the calls that were placed
 pub placed_below : (t placed : List ℕ) → placed ≡ placed_of t → call_count t ≤ 224 → (c : ℕ)
@@ -81,23 +24,56 @@ placed_below t placed e f c h =
     let (i, l, p) = at-among c (placed_of t) (subst (λ k. T (among k c)) e h) in
     omega (arith, p, placed-calls (call_count t) (precedes (shape_of t)) i l)
 
--- ---- what is shown of where the walk ends
-module _ (t path : List ℕ) (at call : ℕ) (w : Walked t path at call) where
-  pub path_few : length (drop at path) ≤ call_count t
-  path_few = omega (arith, length-drop at path, w.long, w.few, w.place)
+-- ---- the walk
+-- the lowest that has no mark is where it begins
+pub begins : (t : List ℕ) (q : ℕ → Bool) (n c : ℕ) → q ≡ among (placed_of t) → n ≡ call_count t
+    → c ≡ least_from (λ a. not (q a)) n 0
+    → c ≡ lowest_left (call_count t) (precedes (shape_of t)) (among (placed_of t))
+unfolding lowest_left
+begins t q n c e f g = g ∙ rw (e, f)
 
-  -- the rest of the path, as the code lends it
-  pub path_rest : take (length path - at) (drop at path) ≡ drop at path
-  path_rest = take_all (length path - at) (drop at path) (omega (arith, length-drop at path))
+-- what it meets
+abbrev pub cycle_met : List ℕ → List ℕ
+cycle_met t = met (call_count t) (precedes (shape_of t)) (among (placed_of t))
 
-  -- the front of it through the call, from its lowest call on
-  pub met-shown : (n : ℕ) → n ≡ call_count t
-      → turn (lowest_place n (upto call (take (length path - at) (drop at path))))
-      (upto call (take (length path - at) (drop at path)))
-      ≡ shown_of t
+-- ---- where not all are placed
+module _ (t : List ℕ) (early : length (placed_of t) < call_count t) where
+  -- one is left
+  pub one_left : (q : ℕ → Bool) (n : ℕ) (r : Option ℕ) → q ≡ among (placed_of t)
+      → n ≡ call_count t
+      → MatchOption r ((c : ℕ) → c < n → T (q c))
+      (λ c. (c < n) × (c ≡ least_from (λ a. not (q a)) n 0))
+      → IsSome r
+  unfolding placed_of
+  one_left q n (Some c) e f m = refl
+  one_left q n None e f all =
+      let (c, h, u) = left_one (call_count t) (precedes (shape_of t)) early in
+      absurd
+      (clash (among (placed_of t) c) (subst (λ (p : ℕ → Bool). T (p c)) e (all c (omega arith))) u)
+
+  -- what the walk meets is a cycle, and no longer than N
+  pub met_is : Cycle (call_count t) (precedes (shape_of t)) (cycle_met t)
+  unfolding placed_of
+  met_is =
+      met-cycle (call_count t) (precedes (shape_of t)) (among (placed_of t))
+      (placed-meets (call_count t) (precedes (shape_of t)) early)
+
+  pub met_few : length (cycle_met t) ≤ call_count t
+  unfolding placed_of
+  met_few =
+      once-most (call_count t) (cycle_met t) met_is.calls
+      (met-once (call_count t) (precedes (shape_of t)) (among (placed_of t))
+      (placed-meets (call_count t) (precedes (shape_of t)) early))
+
+  -- turned, it is what is shown
+  pub shown_turned : (cycle after out : List ℕ) → cycle ≡ cycle_met t
+      → ((n : ℕ) → ((i : ℕ) → i < length cycle → get_or cycle i 0 < n)
+      → after ≡ fronted (turn (lowest_place n cycle) cycle) out)
+      → (length cycle ≡ length (shown_of t)) × (after ≡ fronted (shown_of t) out)
   unfolding shown_of shown
-  met-shown n f = rw (path_rest, f, w.is)
-
-  -- the call met again is one of the path's
-  pub met-call : call < call_count t
-  met-call = let (i, h, e) = at-among call (drop at path) w.again in rw (← e) (w.calls i h)
+  shown_turned cycle after out e written = (
+    rw e
+        (sym (turn-length (lowest_place (call_count t) (cycle_met t)) (cycle_met t)
+        (lowest_place-is (call_count t) (cycle_met t) met_is.any met_is.calls).0)),
+    written (call_count t) (rw e met_is.calls) ∙ rw e,
+  )

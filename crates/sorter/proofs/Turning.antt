@@ -1,134 +1,94 @@
--- The loops over the cycle: its lowest number, and the bytes written from a place on.
-use mathlib.Core.Path.{◌≡◌, subst, ◌∙◌}
-use mathlib.Core.Logic.{◌⊎◌, inl, inr}
-use mathlib.Core.List.{List, ◌∷◌}
-use Prim.Native.Nat.{ℕ, ◌+◌, ◌≤◌, ◌<◌}
-use native.Mathlib.Numerals.{add-one}
-use native.Mathlib.Omega.{arith}
-use native.Mathlib.Decide.{ℕ_discrete}
-use lib.Dec.{T, not_T}
-use lib.ListN.{length, get_or, set, drop, drop_of_length-le}
-use lib.Seq.{drop-cons}
-use Rattle.search.specs.Least.{least_from, lowest-is, lowest-one}
-use Rattle.search.specs.Front.{fronted, Fronting, fronting_starts, fronting_on, fronting_ends}
-use Rattle.orders.specs.Walk.{among}
-use Rattle.orders.specs.Turn.{turn, lowest_of}
-use Rattle.orders.specs.Turned.{turn-length, turn-front, turn-back, among-at, at-among}
+-- The cycle turned: the first place of a call, the lowest call, and its two parts as written.
+use Rattle.std.specs.Prelude.{◌≡◌, List, ℕ, ◌+◌, ◌≤◌, ◌<◌, T, eqb, length, get_or, take, drop}
+use Rattle.std.specs.Prelude.{Contains, EachIndex, Some, IsSome, ◌==◌}
+use Rattle.std.specs.List.{position, position_or_len, enumerate_from}
+use Rattle.std.proofs.Common.{refl, ap, subst, ◌∙◌, arith, zero-add, add-one, set}
+use Rattle.std.proofs.lemmas.List.{get_or_default}
+use Rattle.std.proofs.Math.Decide.{dec_lt}
+use Rattle.std.proofs.Math.Dec.{not_T}
+use Rattle.std.proofs.Math.Seq.{drop-cons}
+use Rattle.std.proofs.lemmas.List.Quantifiers.{position-Some}
+use Rattle.std.proofs.lemmas.List.Sums.{fails_before_first}
+use Rattle.std.proofs.lemmas.List.FromFn.{get_or-enumerate_from, length-enumerate_from}
+use borrow.Author.Tests.{lt-ltb, eqb-true}
+use Rattle.search.specs.Truth.{holds, fails, clash, eq_true}
+use Rattle.search.specs.Front.{Fronting, fronting_on}
+use Rattle.search.specs.Least.{least_from, found}
+use Rattle.orders.specs.Walk.{among, upto}
+use Rattle.orders.proofs.Walked.{upto_take}
+use Rattle.orders.specs.Turn.{lowest_of, lowest_place}
+use Rattle.orders.specs.Turned.{at-among, among-at}
 
-module _ (bytes : List ℕ) (n : ℕ) where
-  -- the lowest below n of the first i bytes
-  pub record Low (i low : ℕ) : Type 0 where
-    pub high : low ≤ n
-    pub one : low < n → T (among bytes low)
-    pub below : (j : ℕ) → j < i → low ≤ get_or bytes j 0
+-- ---- the first place of a byte
+module _ (l : List ℕ) (c : ℕ) where
+  pub place_is : (p : ℕ) → position (λ b. b == c) l ≡ Some p
+      → p ≡ least_from (λ i. eqb (get_or l i 0) c) (length l) 0
+  place_is p e =
+      let (h, t, b) = position-Some (λ b. b == c) l p 0 e in
+      found (λ i. eqb (get_or l i 0) c) (length l) p h (λ k g. fails _ (b k g)) (holds _ t)
 
-  pub low_starts : Low 0 n
-  low_starts =
-      record {
-        high = omega arith;
-        one = λ h. absurd (omega arith);
-        below = λ j h. absurd
-            (omega arith);
-      }
+  -- the front of the list up to it
+  pub upto_place : (p : ℕ) → position (λ b. b == c) l ≡ Some p → upto c l ≡ take (p + 1) l
+  upto_place p e =
+      let (h, t, b) = position-Some (λ b. b == c) l p 0 e in
+      upto_take l c p h (eqb-true _ _ t)
+      (λ i k same. clash (eqb (get_or l i 0) c) (eq_true _ _ same) (fails _ (b i k)))
+      ∙ rw add-one
 
-  pub low_lower : (i low : ℕ) → i < length bytes → get_or bytes i 0 < low → Low i low
-      → Low (i + 1) (get_or bytes i 0)
-  low_lower i low h l b = record {
-    high = omega (arith, b.high);
-    one = λ g. among-at bytes i h;
-    below = λ j g. elim (ℕ_discrete j i) [
-      | yes e ↦ rw e (omega arith)
-      | no ne ↦ omega (arith, b.below j (omega arith))
-    ];
-  }
+  -- one that is there has a place
+  pub among_contains : Contains l c → T (among l c)
+  among_contains (i, h, e) =
+      subst (λ x. T (among l x)) (get_or_default l i 0 c h ∙ e) (among-at l i h)
 
-  pub low-stays : (i low : ℕ) → low ≤ get_or bytes i 0 → Low i low → Low (i + 1) low
-  low-stays i low l b = record {
-    high = b.high;
-    one = b.one;
-    below = λ j g. elim (ℕ_discrete j i) [ yes e ↦ rw e l | no ne ↦ b.below j (omega arith) ];
-  }
-
-  pub low-ends : (i low : ℕ) → length bytes ≤ i → Low i low → low ≡ lowest_of n bytes
-  unfolding lowest_of
-  low-ends i low h b =
-      lowest-one (among bytes) n low (least_from (among bytes) n 0)
-      (record {
-        high = b.high;
-        passes = b.one;
-        below = λ c g. not_T (among bytes c)
-            (λ t. let (j, hj, e) = at-among c bytes t in omega (arith, b.below j (omega arith)));
-      })
-      (lowest-is (among bytes) n)
-
--- ---- the bytes from place `first` on, then those before it
-module _ (bytes : List ℕ) (first : ℕ) where
-  pub record Turning (out₀ out : List ℕ) (from i : ℕ) : Type 0 where
-    pub most : i ≤ length bytes
-    pub within : from ≤ length bytes
-    pub stands : (first + i ≡ from) ⊎ (first + i ≡ length bytes + from)
-    pub front : Fronting (turn first bytes) (drop i (turn first bytes)) out₀ out i
-
-  pub turning_starts : (out : List ℕ) → first < length bytes → Turning out out first 0
-  turning_starts out h = record {
-    most = omega arith;
-    within = omega arith;
-    stands = inl (omega arith);
-    front = fronting_starts (turn first bytes) out;
-  }
-
-  -- `place` is `from`, or 0 where that is past the end
-  pub turning_on : (out₀ out : List ℕ) (from place i : ℕ) → first < length bytes
-      → length bytes ≤ length out₀
-      → i < length bytes → ((from ≡ length bytes) × (place ≡ 0)) ⊎
-      ((from ≡ length bytes → ⊥) × (place ≡ from))
-      → Turning out₀ out from i
-      → (place < length bytes) × Turning out₀ (set out i (get_or bytes place 0)) (place + 1) (i + 1)
-  turning_on out₀ out from place i h room hi case g = (
-    small case,
-    record {
-      most = omega arith;
-      within = omega (arith, small case);
-      stands = next case g.stands;
-      front = fronting_on (turn first bytes) (drop (i + 1) (turn first bytes)) out₀ out i
-          (get_or bytes place 0)
-          (omega (arith, g.front.long))
-          (subst (λ r. Fronting (turn first bytes) r out₀ out i) step g.front);
-    },
-  )
-    where
-      small : ((from ≡ length bytes) × (place ≡ 0)) ⊎ ((from ≡ length bytes → ⊥) × (place ≡ from))
-          → place < length bytes
-      small (inl (p, q)) = omega arith
-      small (inr (p, q)) = elim (ℕ_discrete from (length bytes)) [
-        | yes e ↦ absurd (p e)
-        | no ne ↦ omega (arith, g.within)
+  pub place_some : T (among l c) → IsSome (position (λ b. b == c) l)
+  place_some t =
+      let (i, h, e) = at-among c l t in
+      elim (dec_lt (position_or_len (λ b. b == c) l) (length l)) [
+        | yes p ↦ rw (lt-ltb _ _ p) refl
+        | no p ↦
+            absurd
+            (clash (eqb (get_or l i 0) c) (eq_true _ _ e)
+            (fails _ (fails_before_first (λ b. b == c) l i 0 (omega arith))))
       ]
 
-      next : ((from ≡ length bytes) × (place ≡ 0)) ⊎ ((from ≡ length bytes → ⊥) × (place ≡ from))
-          → (first + i ≡ from) ⊎ (first + i ≡ length bytes + from)
-          → (first + (i + 1) ≡ place + 1) ⊎ (first + (i + 1) ≡ length bytes + (place + 1))
-      next (inl (p, q)) (inl r) = inr (omega arith)
-      next (inl (p, q)) (inr r) = absurd (omega arith)
-      next (inr (p, q)) (inl r) = inl (omega arith)
-      next (inr (p, q)) (inr r) = inr (omega arith)
+-- ---- the lowest call
+module _ (cycle : List ℕ) (low first n : ℕ) (some : 0 < length cycle)
+    (calls : (i : ℕ) → i < length cycle → get_or cycle i 0 < n) (has : Contains cycle low)
+    (least : EachIndex cycle (λ i. low ≤ get_or cycle i 0)) where
+  low_is : low ≡ lowest_of n cycle
+  unfolding lowest_of
+  low_is =
+      let (i, h, e) = at-among low cycle (among_contains cycle low has) in
+      found (among cycle) n low (omega (arith, calls i h))
+      (λ c g. not_T (among cycle c)
+      (λ t. let (j, k, e) = at-among c cycle t in omega (arith, least j k)))
+      (among_contains cycle low has)
 
-      value : ((from ≡ length bytes) × (place ≡ 0)) ⊎ ((from ≡ length bytes → ⊥) × (place ≡ from))
-          → (first + i ≡ from) ⊎ (first + i ≡ length bytes + from)
-          → get_or (turn first bytes) i 0 ≡ get_or bytes place 0
-      value (inl (p, q)) (inl r) = turn-back first bytes h i place (omega arith) (omega arith)
-      value (inl (p, q)) (inr r) = absurd (omega arith)
-      value (inr (p, q)) (inl r) =
-          turn-front first bytes h i place (omega arith) (small (inr (p, q)))
-      value (inr (p, q)) (inr r) = turn-back first bytes h i place (omega arith) (omega arith)
+  pub turned_at : position (λ b. b == low) cycle ≡ Some first → first ≡ lowest_place n cycle
+  unfolding lowest_place
+  turned_at e =
+      place_is cycle low first e
+      ∙ ap (λ c. least_from (λ i. eqb (get_or cycle i 0) c) (length cycle) 0) low_is
 
-      step : drop i (turn first bytes) ≡ get_or bytes place 0 ∷ drop (i + 1) (turn first bytes)
-      step =
-          drop-cons (turn first bytes) i 0 (omega (arith, turn-length first bytes h))
-          ∙ rw (value case g.stands, add-one)
+-- ---- its two parts, one behind the other at the front of the buffer
+-- what the loop over them gives in its k-th turn
+pub stands : (whole : List ℕ) (k place call : ℕ) → k < length (enumerate_from 0 whole)
+    → (place, call) ≡ get_or (enumerate_from 0 whole) k (place, call)
+    → (k < length whole) × (place ≡ k) × (call ≡ get_or whole k 0)
+stands whole k place call h e =
+    let long : k < length whole = rw length-enumerate_from at h in
+    let pair = e ∙ get_or-enumerate_from 0 whole k (place, call) long in (
+      long,
+      ap (λ (p : ℕ × ℕ). p.0) pair ∙ zero-add k,
+      ap (λ (p : ℕ × ℕ). p.1) pair ∙ get_or_default whole k call 0 long,
+    )
 
-  pub turning_ends : (out₀ out : List ℕ) (from i : ℕ) → first < length bytes → length bytes ≤ i
-      → Turning out₀ out from i → out ≡ fronted (turn first bytes) out₀
-  turning_ends out₀ out from i h e g =
-      (fronting_ends (turn first bytes) (drop i (turn first bytes)) out₀ out i g.front
-      (drop_of_length-le (turn first bytes) {i = i} (omega (arith, turn-length first bytes h)))).1
+-- and what is written once that turn is done
+pub front_on : (whole out₀ out : List ℕ) (k j place call : ℕ) → k < length whole → place ≡ k
+    → call ≡ get_or whole k 0 → j ≡ k + 1 → k < length out
+    → Fronting whole (drop k whole) out₀ out k
+    → Fronting whole (drop j whole) out₀ (set out place call) j
+front_on whole out₀ out k j place call h p e f room g =
+    rw (f, p)
+    (fronting_on whole (drop (k + 1) whole) out₀ out k call room
+    (subst (λ r. Fronting whole r out₀ out k) (drop-cons whole k 0 h ∙ rw (e, add-one)) g))

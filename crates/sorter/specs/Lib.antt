@@ -1,6 +1,6 @@
 pub mod Keeps
 pub mod Lows
-pub mod Trail
+pub mod NoOrder
 pub mod Ordering
 pub mod OrderOrCycle
 pub mod Answers

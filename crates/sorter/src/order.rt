@@ -1,70 +1,107 @@
 // The order of a table's calls where all can be placed; else the cycle of what remains.
-ghost use Rattle.std.specs.Prelude.{◌≡◌, ℕ, ◌≤◌, ◌<◌, T, length, get_or, take};
+ghost use Rattle.std.specs.Prelude.{◌≡◌, ◌≤◌, ◌<◌, length, take};
 ghost use Rattle.search.specs.Front.{fronted};
 ghost use Rattle.table.specs.Sound.{Sound};
-ghost use Rattle.orders.specs.Walk.{among, upto};
-ghost use Rattle.orders.specs.Turn.{turn, lowest_place};
 ghost use Rattle.placing.specs.Placing.{call_count, placed_of};
 ghost use Rattle.placing.specs.Thread.{chain};
+ghost use Rattle.sorter.specs.declared.order.NoOrder.TheVariants.{Unsound};
+ghost use Rattle.sorter.specs.NoOrder.{refused, answered};
 ghost use Rattle.sorter.specs.Ordering.{shown_of, ordering};
 ghost use Rattle.sorter.specs.OrderOrCycle.{OrderOrCycle};
 
-use crate::show::{lowest_of, place_of, write_turned};
-use crate::walk::{left_over, walk_back};
+use crate::lows::{Lows, low_gets, low_steps};
+use crate::show::write_turned;
+use crate::walk::{lowest_left, mark, walk_back};
+use placing::Placed;
 use placing::place::place;
+use placing::queue::Queue;
 use placing::thread::write_back;
-use table::Answer;
-use table::check::first_refusal;
-use table::parts::call_count;
+use table::sound::Table;
+use table::{Answer, Fault};
 
-// Writes what was seen up to the call met again, from its lowest call on; gives its length.
-fn write_met(seen: &[u8], call: u8, count: u8, out: &mut [u8]) -> usize
-    requires t { T (among seen.now call) }
-    requires by_index { (i : ℕ) → i < length seen.now → get_or seen.now i 0 < count }
-    requires seen_in_bounds { length seen.now ≤ length out.old }
-    ensures value { result ≡ length (turn (lowest_place count (upto call seen.now))
-        (upto call seen.now)) }
-    ensures out_after { out.new
-        ≡ fronted (turn (lowest_place count (upto call seen.now))
-        (upto call seen.now))
-        out.old }
-{
-    let length = place_of(seen, call) + 1;
-    let cycle = &seen[..length];
-    let first = place_of(cycle, lowest_of(cycle, count));
-    write_turned(cycle, first, out);
-    length
+// Why there is no order: a table that is not sound, no room, or a cycle of so many calls.
+#[derive(Clone, Copy)]
+enum NoOrder {
+    Unsound(Fault),
+    Room,
+    Cycle(usize),
+}
+
+impl From<Fault> for NoOrder {
+    ghost from_gives = { λ fault why. why ≡ Unsound fault };
+
+    fn from(fault: Fault) -> NoOrder {
+        NoOrder::Unsound(fault)
+    }
+}
+
+impl From<NoOrder> for Answer {
+    ghost from_gives = { λ why answer. answer ≡ refused why };
+
+    fn from(why: NoOrder) -> Answer
+        ensures { result ≡ refused why }
+    {
+        match why {
+            NoOrder::Unsound(fault) => Answer::from(fault),
+            NoOrder::Room => Answer {
+                number: 8,
+                place: 0,
+            },
+            NoOrder::Cycle(length) => Answer {
+                number: 9,
+                place: length,
+            },
+        }
+    }
 }
 
 // Writes the cycle of what remains at the front of `out`; gives its length.
 // `bytes` threads the placed calls; once they are marked it serves as the walk's path.
 // Its arrays lie in a frame of their own, where those of `place` lay.
 #[inline(never)]
-fn show_cycle(
-    table: &[u8],
-    count: usize,
-    placed: usize,
-    last: u8,
-    bytes: &mut [u8; 224],
-    out: &mut [u8],
-) -> usize
-    requires sound { Sound table.now }
-    requires count_value { count ≡ call_count table.now }
-    requires bytes_len { length bytes.old ≡ 224 }
-    requires placed_lt_count { placed < count }
-    requires last_value { chain bytes.old placed last ≡ placed_of table.now }
-    requires count_in_bounds { count ≤ length out.old }
-    ensures value { result ≡ length (shown_of table.now) }
-    ensures out_after { out.new ≡ fronted (shown_of table.now) out.old }
+fn show_cycle(table: Table, placed: Placed, bytes: &mut [u8; 224], out: &mut [u8]) -> usize
+    requires early { length (placed_of table.bytes.now) < call_count table.bytes.now }
+    requires thread { chain bytes.old placed.count placed.last ≡ placed_of table.bytes.now }
+    requires room { call_count table.bytes.now ≤ length out.old }
+    ensures value { result ≡ length (shown_of table.entry.bytes.now) }
+    ensures out_after { out.new ≡ fronted (shown_of table.entry.bytes.now) out.old }
 {
-    let mut steps: [u8; 32] = [0; 32];
-    let mut gets: [u8; 96] = [0; 96];
-    let first = left_over(table, count, placed, last, bytes, &mut steps, &mut gets);
-    let met = walk_back(table, first, &steps, &gets, bytes);
-    let at = met.at;
-    let call = met.call;
-    let path = &bytes[..];
-    write_met(&path[at..], call as u8, count as u8, out)
+    let marks = mark(bytes, placed);
+    let first = lowest_left(&marks, table.call_count()).unwrap();
+    let mut steps = [0; 32];
+    let mut gets = [0; 96];
+    low_steps(table, &marks, &mut steps);
+    low_gets(table, &marks, &mut gets);
+    let lows = Lows {
+        table,
+        steps: &steps,
+        gets: &gets,
+    };
+    let cycle = walk_back(lows, first, bytes);
+    write_turned(cycle, out);
+    cycle.len()
+}
+
+// Writes the first order at the front of `out`, and gives its length, or else the cycle.
+fn write_order(table: &[u8], out: &mut [u8]) -> Result<usize, NoOrder>
+    ensures value { answered result ≡ (ordering table.now (length out.old)).answer }
+    ensures out_after { out.new
+        ≡ fronted (ordering table.now (length out.old)).bytes
+        out.old }
+{
+    let table = Table::new(table)?;
+    let count = table.call_count();
+    if out.len() < count {
+        return Err(NoOrder::Room);
+    }
+    let mut queue = Queue::new();
+    let placed = place(table, &mut queue);
+    if placed.count == count {
+        write_back(&queue.waiting, placed, out);
+        return Ok(count);
+    }
+    let length = show_cycle(table, placed, &mut queue.waiting, out);
+    Err(NoOrder::Cycle(length))
 }
 
 // The first order at the front of `out`, or the cycle, or another refusal, which writes nothing.
@@ -76,34 +113,11 @@ pub fn order(table: &[u8], out: &mut [u8]) -> Answer
     ensures order_or_cycle { Sound table.now → call_count table.now ≤ length out.old
         → OrderOrCycle table.now result (take result.place out.new) }
 {
-    let number = first_refusal(table);
-    if number != 0 {
-        return Answer {
-            number: number,
-            place: 0,
-        };
-    }
-    let count = call_count(table);
-    if out.len() < count {
-        return Answer {
-            number: 8,
-            place: 0,
-        };
-    }
-    let mut bytes: [u8; 224] = [0; 224];
-    let placed = place(table, count, &mut bytes);
-    let many = placed.count;
-    let last = placed.last;
-    if many == count {
-        write_back(&bytes, last, count, out);
-        return Answer {
+    match write_order(table, out) {
+        Ok(count) => Answer {
             number: 0,
             place: count,
-        };
-    }
-    let length = show_cycle(table, count, many, last, &mut bytes, out);
-    Answer {
-        number: 9,
-        place: length,
+        },
+        Err(why) => Answer::from(why),
     }
 }

@@ -1,53 +1,37 @@
 // The cycle that the walk met, written from its lowest call on.
-ghost use Rattle.std.specs.Prelude.{◌≡◌, ◌≤◌, ◌<◌, length};
-ghost use Rattle.search.specs.Least.{least_from};
+ghost use Rattle.std.specs.Prelude.{◌≡◌, ◌==◌, ℕ, ◌≤◌, ◌<◌, length, get_or};
+ghost use Rattle.std.specs.Prelude.{MatchOption, Contains, EachIndex, slice_index};
+ghost use Rattle.std.specs.List.{position};
 ghost use Rattle.search.specs.Front.{fronted};
-ghost use Rattle.orders.specs.Turn.{turn, lowest_of};
-ghost use Rattle.placing.specs.Less.{is_key};
+ghost use Rattle.orders.specs.Turn.{turn, lowest_place};
 
-// The first place that holds the byte; the length where none does.
-pub fn place_of(bytes: &[u8], byte: u8) -> usize
-    ensures { result ≡ least_from (is_key bytes.now byte) (length bytes.now) 0 }
+// The first place that holds the byte.
+pub fn place_of(bytes: &[u8], byte: u8) -> Option<usize>
+    ensures { result ≡ position (λ b. b == byte) bytes.now }
 {
-    let mut i = 0;
-    while i < bytes.len() {
-        if bytes[i] == byte {
-            return i;
-        }
-        i += 1;
-    }
-    i
+    bytes.iter().position(|b| *b == byte)
 }
 
-// The lowest number below `count` that is one of the bytes; `count` where none is.
-pub fn lowest_of(bytes: &[u8], count: u8) -> u8
-    ensures { result ≡ lowest_of count bytes.now }
+// The lowest of the bytes.
+fn lowest_of(bytes: &[u8]) -> Option<u8>
+    ensures { MatchOption result (length bytes.now ≡ 0)
+        (λ low. Contains bytes.now low × EachIndex bytes.now (λ i. low ≤ slice_index bytes.now i)) }
 {
-    let mut low = count;
-    let mut i = 0;
-    while i < bytes.len() {
-        if bytes[i] < low {
-            low = bytes[i];
-        }
-        i += 1;
-    }
-    low
+    bytes.iter().copied().min()
 }
 
-// Writes the bytes from place `first` on at the front of `out`, then those before it.
-pub fn write_turned(bytes: &[u8], first: usize, out: &mut [u8])
-    requires first_in_bounds { first < length bytes.now }
-    requires bytes_in_bounds { length bytes.now ≤ length out.old }
-    ensures { out.new ≡ fronted (turn first bytes.now) out.old }
+// Writes the cycle at the front of `out`, from its lowest call on.
+pub fn write_turned(cycle: &[u8], out: &mut [u8])
+    requires cycle_any { 0 < length cycle.now }
+    requires cycle_in_bounds { length cycle.now ≤ length out.old }
+    ensures { (n : ℕ) → ((i : ℕ) → i < length cycle.now → get_or cycle.now i 0 < n)
+        → out.new ≡ fronted (turn (lowest_place n cycle.now) cycle.now) out.old }
 {
-    let mut from = first;
-    let mut to = 0;
-    while to < bytes.len() {
-        if from == bytes.len() {
-            from = 0;
-        }
-        out[to] = bytes[from];
-        from += 1;
-        to += 1;
+    let low = lowest_of(cycle).unwrap();
+    let first = place_of(cycle, low).unwrap();
+    let (front, back) = cycle.split_at(first);
+    // Stays: `copy_from_slice` calls memmove, and the archives need no more than memcpy and memset.
+    for (place, call) in back.iter().chain(front).enumerate() {
+        out[place] = *call;
     }
 }

@@ -1,17 +1,13 @@
--- Each byte is X at first; then it is its output's lowest among the feeds passed (`gets_lower`).
-use Prim.Native.Nat.{◌-◌}
+-- Each byte is its output's lowest among the feeds passed, X where none is (`gets_lower`).
+use Rattle.std.specs.Prelude.{◌≡◌, ◌*◌, length, drop}
+use Rattle.table.specs.Packed.{pairs}
 use Rattle.bits.specs.Bits.{has}
-use Rattle.sorter.proofs.Passes.{Filled, Gets}
+use Rattle.sorter.proofs.Passes.{Gets}
 use Rattle.sorter.proofs.lows.low_gets.Given as goal
 
-abbrev pub invariant-loop-y : goal.invariant-loop-y
-invariant-loop-y l = Filled 96 l.none l.lows l.y
-
-abbrev pub decreases-loop-y : goal.decreases-loop-y
-decreases-loop-y l = 96 - l.y
-
-abbrev pub invariant-loop-k : goal.invariant-loop-k
-invariant-loop-k l = Gets l.table (has l.marks) l.lows l.k
-
-abbrev pub decreases-loop-k : goal.decreases-loop-k
-decreases-loop-k l = l.count - l.k
+abbrev pub invariant-loop-pair : goal.invariant-loop-pair
+invariant-loop-pair l = record {
+  size : l.pair-iterator.size ≡ 2;
+  rest : l.pair-iterator.rest.now ≡ drop (2 * length l.yielded) (pairs l.table.bytes.now);
+  gets : Gets l.table.bytes.now (has l.marks.words) l.lows (length l.yielded);
+}

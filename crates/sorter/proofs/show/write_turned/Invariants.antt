@@ -1,11 +1,10 @@
--- What is written and what is to come is the list turned (`turning_on`).
-use Prim.Native.Nat.{◌-◌}
-use lib.ListN.{length}
-use Rattle.sorter.proofs.Turning.{Turning}
+-- What is written and what is to come are the cycle turned (`front_on`).
+use Rattle.std.specs.Prelude.{length, drop}
+use Rattle.search.specs.Front.{Fronting}
+use Rattle.orders.specs.Turn.{turn}
 use Rattle.sorter.proofs.show.write_turned.Given as goal
 
-abbrev pub invariant-loop-to : goal.invariant-loop-to
-invariant-loop-to l = Turning l.bytes l.first l.initial.out l.out l.from l.to
-
-abbrev pub decreases-loop-to : goal.decreases-loop-to
-decreases-loop-to l = length l.bytes - l.to
+abbrev pub invariant-loop-place : goal.invariant-loop-place
+invariant-loop-place l =
+    Fronting (turn l.first l.cycle) (drop (length l.yielded) (turn l.first l.cycle)) l.initial.out
+    l.out (length l.yielded)

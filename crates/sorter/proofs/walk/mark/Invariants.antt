@@ -3,8 +3,7 @@ use Prim.Native.Nat.{◌-◌}
 use Rattle.sorter.proofs.Trails.{Marking}
 use Rattle.sorter.proofs.walk.mark.Given as goal
 
-abbrev pub invariant-loop-n : goal.invariant-loop-n
-invariant-loop-n l = Marking l.bytes l.count l.last l.marks l.n l.c
-
-abbrev pub decreases-loop-n : goal.decreases-loop-n
-decreases-loop-n l = l.n
+abbrev pub invariant-loop : goal.invariant-loop
+invariant-loop l =
+    Marking l.bytes l.fn.placed.count l.fn.placed.last l.marks.words (l.fn.placed.count - l.counter)
+    l.call
