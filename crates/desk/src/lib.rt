@@ -14,11 +14,38 @@ ghost use Rattle.listing.specs.Listing.{listing};
 use judge::{Run, Taken};
 
 // A number, and a line or how many bytes were written, apart: a line may be above 255.
+// Stays: C gets the two by value.
 #[repr(C)]
 #[derive(Clone, Copy)]
 pub struct Reading {
     pub number: u8,
     pub place: usize,
+}
+
+// What is answered to a text.
+impl From<text::Answer> for Reading {
+    ghost from_gives = { λ answer reading. reading
+        ≡ record { number = answer.number; place = answer.place } };
+
+    fn from(answer: text::Answer) -> Reading {
+        Reading {
+            number: answer.number,
+            place: answer.place,
+        }
+    }
+}
+
+// What is answered to a listing.
+impl From<table::Answer> for Reading {
+    ghost from_gives = { λ listed reading. reading
+        ≡ record { number = listed.number; place = listed.place } };
+
+    fn from(listed: table::Answer) -> Reading {
+        Reading {
+            number: listed.number,
+            place: listed.place,
+        }
+    }
 }
 
 // Reads a text into a packed table.
@@ -32,11 +59,7 @@ pub extern "C" fn oorlichday_read(text: &[u8], table: &mut [u8]) -> Reading
         ≡ fronted (reading (length table.old) text.now).bytes
         table.old }
 {
-    let answer = text::read(text, table);
-    Reading {
-        number: answer.number,
-        place: answer.place,
-    }
+    Reading::from(text::read(text, table))
 }
 
 // Writes what the lister prints of a text, refused or not: 0 and its length; 34 and 0 if no room.
@@ -50,11 +73,7 @@ pub extern "C" fn oorlichday_list(text: &[u8], out: &mut [u8]) -> Reading
         ≡ fronted (listed (listing text.now) (length out.old)).bytes
         out.old }
 {
-    let listed = listing::list(text, out);
-    Reading {
-        number: listed.number,
-        place: listed.place,
-    }
+    Reading::from(listing::list(text, out))
 }
 
 // One call of a judged run: the next run with 0, or the run as it was with the refusal's number.

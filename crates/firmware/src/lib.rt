@@ -14,6 +14,8 @@ use judge::records::Record;
 use table::Answer;
 
 // 256 times the number plus the place, which is at most 224.
+// Stays: C gets the two in one word, and Rust takes no `From` between types of other crates.
+#[tactic(auto, unfolding(crate::specs::Code::coded))]
 fn code(answer: Answer) -> u32
     requires { answer.place ≤ 224 }
     ensures { result ≡ coded answer }

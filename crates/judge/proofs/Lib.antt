@@ -1,10 +1,10 @@
--- Laws of the judge: its scans, refusals, turns and records; and what its contracts settle.
+-- Laws of the judge: its scans, calls, runs and turns; and what its contracts settle.
 pub mod Scanning
-pub mod Refusals
+pub mod Lowest
 pub mod Scanned
+pub mod Calls
+pub mod Numbers
+pub mod Taking
 pub mod Turns
-pub mod Recorded
-pub mod Carried
-pub mod Walked
 pub mod InTurn
 pub mod Settled

@@ -1,171 +1,165 @@
--- What the scans say of a sound table: the faults of a step and of a get.
-use mathlib.Core.Path.{◌≡◌, refl, sym, ap, fun_ext, ◌∙◌}
-use mathlib.Core.Logic.{inl, inr}
-use mathlib.Core.Bool.{Bool, beq, true, false, not, ◌&&◌, ◌||◌}
-use mathlib.Core.List.{List}
-use Prim.Native.Nat.{ℕ, ◌+◌, ◌*◌, ◌≤◌, ◌<◌}
-use native.Mathlib.Omega.{arith}
-use native.Mathlib.Decide.{ℕ_discrete}
-use lib.ListN.{length, get_or}
-use lib.Dec.{T, eqb, leb}
-use borrow.Author.Tests.{ne_eqb, lt-leb}
-use Rattle.search.specs.Truth.{T_or, or_left, or_right, same_test}
-use Rattle.search.specs.Every.{some, some-found, found_some}
-use Rattle.table.specs.Packed.{
-  units,
-  outputs,
-  inputs,
-  feeds,
-  output_owners,
-  input_owners,
-  kinds,
-  sources,
-  pairs,
-  shape_of,
+-- What the chains over the inputs and the feeds of a sound table answer.
+use Rattle.std.proofs.Common.{
+  ◌≡◌,
+  refl,
+  sym,
+  ap,
+  ◌∙◌,
+  Bool,
+  true,
+  false,
+  not,
+  ◌&&◌,
+  cond,
+  List,
+  [],
+  ℕ,
+  ◌+◌,
+  ◌-◌,
+  ◌*◌,
+  ◌<◌,
+  ◌≤◌,
+  min,
+  Some,
+  None,
+  length,
+  get_or,
+  map,
+  take,
+  drop,
+  eqb,
+  arith,
+  length-drop,
 }
-use Rattle.table.specs.Check.{refusal}
+use Rattle.std.proofs.lemmas.List.{get_or-take, get_or-drop, length-take-le}
+use Rattle.std.proofs.lemmas.Slice.Zip.{get_or-zip, length-zip}
+use Rattle.std.specs.Bool.{beq}
+use Rattle.std.specs.List.{filter, list_any, reduce, zip}
+use Rattle.search.specs.Truth.{lt_true}
+use Rattle.search.specs.Every.{some}
+use Rattle.table.specs.Packed.{units, outputs, inputs, feeds, input_owners, kinds, pairs, shape_of}
+use Rattle.table.specs.Sound.{Sound}
 use Rattle.table.specs.Layout.{long_input_owners, long-kinds, long-pairs}
-use Rattle.table.proofs.Checked.{passed-sound, few-calls}
+use Rattle.table.proofs.Checked.{few-calls}
+use Rattle.calls.specs.Number.{set_no}
 use Rattle.calls.specs.Precedence.{has_kind}
-use Rattle.judging.specs.Conditions.{early, unset, unstepped, unfed, ungot}
+use Rattle.judging.specs.Conditions.{early, unset, unfed}
 use Rattle.judge.specs.Marks.{marks}
-use Rattle.judge.specs.Scans.{amiss_at, lacking_at}
+use Rattle.judge.proofs.Scanning.{some-place, pairs_of, length_pairs, pair_at}
+use Rattle.judge.proofs.Lowest.{Input, kind_of, of_kind, bars, Kinds, lowest-is}
 
--- ---- what the scans say of a table
+-- the test of the chain over the feeds
+abbrev pub of_feed : List Bool → ℕ → ℕ → List ℕ → Bool
+of_feed done first output p = eqb (get_or p 1 0) output && not (marks done (first + get_or p 0 0))
 
-some_same : (p q : ℕ → Bool) (n : ℕ) → ((i : ℕ) → p i ≡ q i) → some p n ≡ some q n
-some_same p q n h = ap (λ f. some f n) (fun_ext h)
+-- the tests of an input in either order
+turned : (o k m set : Bool) → (o && (k && beq m set)) ≡ ((k && o) && cond set m (not m))
+turned true true true true = refl
+turned true true true false = refl
+turned true true false true = refl
+turned true true false false = refl
+turned true false m true = refl
+turned true false m false = refl
+turned false true m true = refl
+turned false true m false = refl
+turned false false m true = refl
+turned false false m false = refl
 
-some_or : (p q : ℕ → Bool) (n : ℕ) → some (λ i. p i || q i) n ≡ (some p n || some q n)
-some_or p q n = same_test (some (λ i. p i || q i) n) (some p n || some q n) to from
-  where
-    to : T (some (λ i. p i || q i) n) → T (some p n || some q n)
-    to t =
-        let (i, h, r) = some-found (λ i. p i || q i) n t in
-        elim (T_or (p i) (q i) r) [
-          | inl a ↦ or_left (some p n) (some q n) (found_some p n i h a)
-          | inr a ↦ or_right (some p n) (some q n) (found_some q n i h a)
-        ]
-
-    from : T (some p n || some q n) → T (some (λ i. p i || q i) n)
-    from t = elim (T_or (some p n) (some q n) t) [
-      | inl a ↦
-          (let (i, h, r) = some-found p n a in
-          found_some (λ i. p i || q i) n i h (or_left (p i) (q i) r))
-      | inr a ↦
-          (let (i, h, r) = some-found q n a in
-          found_some (λ i. p i || q i) n i h (or_right (p i) (q i) r))
-    ]
-
--- an input of a kind up to 0 that stands in the way is delayed and set
-delayed-only : (o m : Bool) (k : ℕ)
-    → (o && (leb k 0 && beq m (eqb k 0))) ≡ ((eqb k 0 && o) && m)
-delayed-only o m k = elim (ℕ_discrete k 0) [
-  | yes e ↦ rw e (is o m)
-  | no e ↦ rw (ne_eqb k 0 e, lt-leb k 0 (omega arith)) (not_so o)
-]
-  where
-    is : (o m : Bool) → (o && beq m true) ≡ (o && m)
-    is true true = refl
-    is true false = refl
-    is false m = refl
-
-    not_so : (o : Bool) → (o && false) ≡ false
-    not_so true = refl
-    not_so false = refl
-
--- of a kind up to 1: delayed and set, or reactive and not
-both-kinds : (o m : Bool) (k : ℕ)
-    → (o && (leb k 1 && beq m (eqb k 0)))
-    ≡ (((eqb k 0 && o) && m) || ((eqb k 1 && o) && not m))
-both-kinds o m k = elim (ℕ_discrete k 0) [
-  | yes e ↦ rw e (delayed o m)
-  | no e ↦ elim (ℕ_discrete k 1) [
-    | yes f ↦ rw f (reactive o m)
-    | no f ↦ rw (ne_eqb k 0 e, ne_eqb k 1 f, lt-leb k 1 (omega arith)) (neither o)
-  ]
-]
-  where
-    delayed : (o m : Bool) → (o && beq m true) ≡ ((o && m) || false)
-    delayed true true = refl
-    delayed true false = refl
-    delayed false m = refl
-
-    reactive : (o m : Bool) → (o && beq m false) ≡ (o && not m)
-    reactive true true = refl
-    reactive true false = refl
-    reactive false m = refl
-
-    neither : (o : Bool) → (o && false) ≡ false
-    neither true = refl
-    neither false = refl
-
-module _ (t : List ℕ) (d : List Bool) where
-  module _ (u y : ℕ) (eu : u ≡ units t) (ey : y ≡ outputs t) where
-    module _ (sound : refusal t ≡ 0) (owners ks : List ℕ) (eo : owners ≡ input_owners t)
-        (ek : ks ≡ kinds t) (unit : ℕ)
-      where
-        owners_long : length owners ≡ inputs t
-        owners_long = ap length eo ∙ long_input_owners t (passed-sound t sound).long
-
-        pub early-is : some (amiss_at owners ks d (u + y) unit 0) (length owners)
-            ≡ early (shape_of t) (marks d) unit
-        unfolding amiss_at early has_kind
-        early-is =
-            rw (owners_long, eo, ek, eu, ey)
-            (some_same _ _ (inputs t)
-            (λ x. delayed-only (eqb (get_or (input_owners t) x 0) unit)
-            (marks d (units t + outputs t + x))
-            (get_or (kinds t) x 0)))
-
-        pub either_is : some (amiss_at owners ks d (u + y) unit 1) (length owners)
-            ≡ (early (shape_of t) (marks d) unit || unset (shape_of t) (marks d) unit)
-        unfolding amiss_at early unset has_kind
-        either_is =
-            rw (owners_long, eo, ek, eu, ey)
-            (some_same _ _ (inputs t)
-            (λ x. both-kinds (eqb (get_or (input_owners t) x 0) unit)
-            (marks d (units t + outputs t + x))
-            (get_or (kinds t) x 0))
-            ∙ some_or _ _ (inputs t))
-
-    pub unfed-is : (ps : List ℕ) (output f : ℕ) → ps ≡ pairs t → f ≡ feeds t
-        → some (lacking_at ps d (u + y) output) f ≡ unfed (shape_of t) (marks d) output
-    unfolding lacking_at unfed
-    unfed-is ps output f ep ef = rw (ep, eu, ey, ef)
-
-  module _ (part : List ℕ) (at a : ℕ) (r : Bool) (ea : a ≡ get_or part at 0) where
-    pub unstepped-is : part ≡ output_owners t → r ≡ marks d a
-        → not r ≡ unstepped (shape_of t) (marks d) at
-    unfolding unstepped
-    unstepped-is ep er = rw (er, ea, ep)
-
-    pub ungot-is : part ≡ sources t → (u : ℕ) → u ≡ units t → r ≡ marks d (u + a)
-        → not r ≡ ungot (shape_of t) (marks d) at
-    unfolding ungot
-    ungot-is ep u eu er = rw (er, ea, ep, eu)
-
--- ---- the parts of a sound table have room for the scans
-
-module _ (t : List ℕ) (sound : refusal t ≡ 0) (u y : ℕ) (eu : u ≡ units t)
+module _ (t : List ℕ) (sound : Sound t) (done : List Bool) (u y : ℕ) (eu : u ≡ units t)
     (ey : y ≡ outputs t) where
-  pub inputs-room : (owners ks : List ℕ) → owners ≡ input_owners t → ks ≡ kinds t
-      → (length ks ≡ length owners) × (u + y + length owners ≤ 224)
-  inputs-room owners ks eo ek =
-      let s = passed-sound t sound in
-      let a = ap length eo ∙ long_input_owners t s.long in
-      (ap length ek ∙ long-kinds t s.long ∙ sym a, omega (arith, few-calls t s))
+  module _ (long : length done ≡ 224) (x : ℕ) (ex : x ≡ inputs t) (owners ks : List ℕ)
+      (eo : owners ≡ input_owners t)
+      (ek : ks ≡ kinds t)
+      (unit : ℕ)
+    where
+      abbrev mark_of : ℕ → Bool
+      mark_of i = marks done (set_no (shape_of t) i)
 
-  pub feeds-room : (ps : List ℕ) (f : ℕ) → ps ≡ pairs t → f ≡ feeds t
-      → (2 * f ≤ length ps) × (u + y ≤ 224)
-  feeds-room ps f ep ef =
-      let s = passed-sound t sound in
-      let a = ap length ep ∙ long-pairs t s.long in
-      (omega arith, omega (arith, few-calls t s))
+      -- the marks of all inputs
+      abbrev sets : List Bool
+      sets = take (u + y + x - (u + y)) (drop (u + y) done)
 
--- U and Y are bytes
-pub unit-small : (t : List ℕ) → refusal t ≡ 0 → (u : ℕ) → u < units t → u < 256
-unit-small t z u h = omega (arith, (passed-sound t z).counted.units-most)
+      -- all inputs
+      abbrev all : List Input
+      all = zip (zip owners ks) sets
 
-pub output-small : (t : List ℕ) → refusal t ≡ 0 → (y : ℕ) → y < outputs t → y < 256
-output-small t z y h = omega (arith, (passed-sound t z).counted.outputs-most)
+      long-owners : length owners ≡ x
+      long-owners = ap length eo ∙ long_input_owners t sound.long ∙ sym ex
+
+      kinds-long : length ks ≡ x
+      kinds-long = ap length ek ∙ long-kinds t sound.long ∙ sym ex
+
+      room : u + y + x ≤ 224
+      room = omega (arith, few-calls t sound)
+
+      long-sets : length sets ≡ x
+      long-sets =
+          length-take-le (u + y + x - (u + y)) (drop (u + y) done)
+          (omega (arith, room, length-drop (u + y) done))
+          ∙ omega arith
+
+      set_at : (i : ℕ) → i < x → get_or sets i false ≡ mark_of i
+      unfolding marks
+      set_at i h =
+          get_or-take (u + y + x - (u + y)) (drop (u + y) done) i false (omega arith)
+          ∙ get_or-drop (u + y) done i false
+          ∙ rw (← eu, ← ey, lt_true (u + y + i) 224 (omega (arith, room)))
+
+      input_at : (i : ℕ) → i < x
+          → get_or all i ((0, 0), false)
+          ≡ ((get_or (input_owners t) i 0, get_or (kinds t) i 0), mark_of i)
+      input_at i h =
+          rw (
+            get_or-zip (zip owners ks) sets i ((0, 0), false)
+                (omega (arith, long-owners, kinds-long, length-zip owners ks))
+                (omega (arith, long-sets)),
+            get_or-zip owners ks i (0, 0) (omega (arith, long-owners)) (omega (arith, kinds-long)),
+            set_at i h,
+            eo,
+            ek,
+          )
+
+      all-long : length all ≡ inputs t
+      all-long =
+          omega (
+            arith,
+            long-owners,
+            kinds-long,
+            long-sets,
+            length-zip (zip owners ks) sets,
+            length-zip owners ks,
+          )
+
+      of-kind : (kind : ℕ) (set : Bool)
+          → list_any (of_kind unit kind set) all
+          ≡ some (λ i. has_kind (shape_of t) kind i unit
+          && cond set (mark_of i) (not (mark_of i)))
+          (inputs t)
+      unfolding has_kind
+      of-kind kind set =
+          some-place (of_kind unit kind set) _ all ((0, 0), false) (inputs t) all-long
+          (λ i h. rw (input_at i (omega arith)) (turned (eqb (get_or (input_owners t) i 0) unit)
+          (eqb (get_or (kinds t) i 0) kind) (mark_of i) set))
+
+      known : Kinds unit all
+      known i h =
+          rw (input_at i (omega (arith, all-long)))
+          (sound.wired.kind-known i (omega (arith, all-long)))
+
+      pub lowest_amiss-is : reduce min (map kind_of (filter (bars unit) all))
+          ≡ cond (early (shape_of t) (marks done) unit) (Some 0)
+          (cond (unset (shape_of t) (marks done) unit) (Some 1) None)
+      unfolding early unset
+      lowest_amiss-is = lowest-is unit all known ∙ rw (of-kind 0 true, of-kind 1 false)
+
+  pub some_unfed-is : (ps : List ℕ) → ps ≡ pairs t → (output : ℕ)
+      → list_any (of_feed done (u + y) output) (pairs_of ps)
+      ≡ unfed (shape_of t) (marks done) output
+  unfolding unfed
+  some_unfed-is ps e output =
+      some-place (of_feed done (u + y) output) _ (pairs_of ps)
+      [] (feeds t) (length_pairs (feeds t) ps long)
+      (λ k h. rw (pair_at ps k (omega (arith, long)), e, eu, ey))
+    where
+      long : length ps ≡ 2 * feeds t
+      long = ap length e ∙ long-pairs t sound.long

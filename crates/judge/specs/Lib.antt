@@ -1,5 +1,6 @@
 pub mod Marks
-pub mod Scans
+pub mod Refused
+pub mod Opened
 pub mod Taken
 pub mod CallByCall
 pub mod Records

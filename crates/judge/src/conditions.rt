@@ -1,98 +1,106 @@
-// The conditions of one call on a sound table, by rising number from 11.
-ghost use Rattle.std.specs.Prelude.{◌≡◌, ◌<◌};
-ghost use Rattle.table.specs.Packed.{outputs, shape_of, units};
-ghost use Rattle.table.specs.Check.{refusal};
+// The conditions of one call on a sound table: SPECIFICATION, Judging 4.
+ghost use Rattle.std.specs.Prelude.{◌≡◌, ◌<◌, cond, false};
+ghost use Rattle.table.specs.Packed.{inputs, outputs, shape_of};
 ghost use Rattle.calls.specs.declared.Call.TheVariants.{Step, Get, Set};
-ghost use Rattle.judging.specs.Conditions.{refusal_of, refusal_at};
+ghost use Rattle.judging.specs.Conditions.{early, unset, unfed, refusal_of, refusal_at};
 ghost use Rattle.judge.specs.Marks.{marks};
+ghost use Rattle.judge.specs.Refused.{number_of};
 
-use crate::scans::{marked, some_amiss, some_lacking};
+use crate::Run;
+use crate::refusal::Refusal;
 use calls::Call;
-use calls::number::call_in;
-use table::parts::{
-    byte, feed_count, feed_pairs, input_count, input_kinds, input_owners, input_sources,
-    output_count, output_owners, unit_count,
-};
+use calls::number::call_at;
+use table::sound::Table;
 
-// The step of a unit: 12, 13, 14 or 0.
-fn step_refusal(table: &[u8], done: &[bool; 224], again: bool, unit: usize) -> u8
-    requires table_value { refusal table.now ≡ 0 }
-    requires unit_bound { unit < units table.now }
-    ensures { result ≡ refusal_of (shape_of table.now) (marks done.now)
-        (Step unit) again }
-{
-    if again {
-        return 12;
+#[tactic(auto, unfolding(crate::specs::Opened::conditions))]
+impl Run {
+    // Is this call done?
+    #[tactic(auto, unfolding(crate::specs::Marks::marks))]
+    fn is_done(&self, call: usize) -> bool
+        ensures { result ≡ marks self.now.done call }
+    {
+        call < 224 && self.done[call]
     }
-    let owners = input_owners(table);
-    let kinds = input_kinds(table);
-    let first = unit_count(table) + output_count(table);
-    let this = unit as u8;
-    if !some_amiss(owners, kinds, done, first, this, 1) {
-        return 0;
-    }
-    if some_amiss(owners, kinds, done, first, this, 0) {
-        return 13;
-    }
-    14
-}
 
-// The get of an output: 12, 15, 16 or 0.
-fn get_refusal(table: &[u8], done: &[bool; 224], again: bool, output: usize) -> u8
-    requires table_value { refusal table.now ≡ 0 }
-    requires output_bound { output < outputs table.now }
-    ensures { result ≡ refusal_of (shape_of table.now) (marks done.now)
-        (Get output) again }
-{
-    if again {
-        return 12;
+    // The lowest kind of the unit's inputs that bar its step: delayed and set, or reactive and not.
+    fn lowest_amiss(&self, table: Table, unit: usize) -> Option<u8>
+        ensures { result
+            ≡ cond (early (shape_of table.entry.bytes.now) (marks self.now.done) unit) (Some 0)
+            (cond (unset (shape_of table.entry.bytes.now) (marks self.now.done) unit) (Some 1)
+            None) }
+    {
+        let first = table.unit_count() + table.output_count();
+        let sets = &self.done[first..first + table.input_count()];
+        table
+            .input_owners()
+            .iter()
+            .zip(table.input_kinds())
+            .zip(sets)
+            .filter(|((owner, kind), set)| **owner as usize == unit && **set == (**kind == 0))
+            .map(|((_, kind), _)| *kind)
+            .min()
     }
-    if !marked(done, byte(output_owners(table), output)) {
-        return 15;
-    }
-    let first = unit_count(table) + output_count(table);
-    if some_lacking(
-        feed_pairs(table),
-        done,
-        first,
-        output as u8,
-        feed_count(table),
-    ) {
-        return 16;
-    }
-    0
-}
 
-// The set of an input: 12, 17 or 0.
-fn set_refusal(table: &[u8], done: &[bool; 224], again: bool, input: usize) -> u8
-    ensures { result ≡ refusal_of (shape_of table.now) (marks done.now)
-        (Set input) again }
-{
-    if again {
-        return 12;
+    // Is some input that feeds this output not set?
+    fn some_unfed(&self, table: Table, output: usize) -> bool
+        ensures { result ≡ unfed (shape_of table.entry.bytes.now) (marks self.now.done) output }
+    {
+        let first = table.unit_count() + table.output_count();
+        table.feed_pairs().chunks_exact(2).any(|pair| {
+            pair[1] as usize == output && !self.is_done(first + pair[0] as usize)
+        })
     }
-    if !marked(done, unit_count(table) + byte(input_sources(table), input)) {
-        return 17;
-    }
-    0
-}
 
-// The number that a call is answered where these calls are done: 11 to 17, or 0.
-pub fn refusal_at(table: &[u8], done: &[bool; 224], call: usize) -> u8
-    requires { refusal table.now ≡ 0 }
-    ensures { result ≡ refusal_at (shape_of table.now) (marks done.now) call }
-{
-    let again = marked(done, call);
-    let asked = call_in(
-        unit_count(table),
-        output_count(table),
-        input_count(table),
-        call,
-    );
-    match asked {
-        Call::Step(unit) => step_refusal(table, done, again, unit),
-        Call::Get(output) => get_refusal(table, done, again, output),
-        Call::Set(input) => set_refusal(table, done, again, input),
-        Call::NoCall => 11,
+    // The conditions of a unit's step.
+    fn step(&self, table: Table, unit: usize) -> Result<(), Refusal>
+        ensures { number_of result
+            ≡ refusal_of (shape_of table.entry.bytes.now) (marks self.now.done) (Step unit) false }
+    {
+        match self.lowest_amiss(table, unit) {
+            None => Ok(()),
+            Some(0) => Err(Refusal::DelayedSet),
+            Some(_) => Err(Refusal::ReactiveNotSet),
+        }
+    }
+
+    // The conditions of an output's get.
+    fn get(&self, table: Table, output: usize) -> Result<(), Refusal>
+        requires { output < outputs table.bytes.now }
+        ensures { number_of result
+            ≡ refusal_of (shape_of table.entry.bytes.now) (marks self.now.done) (Get output) false }
+    {
+        if !self.is_done(table.output_owners()[output] as usize) {
+            return Err(Refusal::NotStepped);
+        }
+        if self.some_unfed(table, output) {
+            return Err(Refusal::FeedingNotSet);
+        }
+        Ok(())
+    }
+
+    // The conditions of an input's set.
+    fn set(&self, table: Table, input: usize) -> Result<(), Refusal>
+        requires { input < inputs table.bytes.now }
+        ensures { number_of result
+            ≡ refusal_of (shape_of table.entry.bytes.now) (marks self.now.done) (Set input) false }
+    {
+        if !self.is_done(table.unit_count() + table.input_sources()[input] as usize) {
+            return Err(Refusal::SourceNotGot);
+        }
+        Ok(())
+    }
+
+    // The conditions of the call that a number stands for.
+    pub(crate) fn allows(&self, table: Table, call: usize) -> Result<(), Refusal>
+        ensures { number_of result
+            ≡ refusal_at (shape_of table.entry.bytes.now) (marks self.now.done) call }
+    {
+        match call_at(table, call) {
+            Call::NoCall => Err(Refusal::NoCall),
+            _ if self.is_done(call) => Err(Refusal::DoneBefore),
+            Call::Step(unit) => self.step(table, unit),
+            Call::Get(output) => self.get(table, output),
+            Call::Set(input) => self.set(table, input),
+        }
     }
 }

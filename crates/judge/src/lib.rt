@@ -1,23 +1,25 @@
 // The judge: a run that takes one call at a time, and the verdict on an order.
 #![tactic(auto)]
 
-ghost use Rattle.std.specs.Prelude.{◌≡◌, ◌↔◌};
+ghost use Rattle.std.specs.Prelude.{◌≡◌, ◌↔◌, cond, eqb, set, true};
 ghost use Rattle.table.specs.Packed.{shape_of};
-ghost use Rattle.table.specs.Check.{refusal};
 ghost use Rattle.table.specs.Sound.{Sound};
+ghost use Rattle.judging.specs.Conditions.{refusal_at};
 ghost use Rattle.judging.specs.Passes.{Passes};
-ghost use Rattle.judging.specs.Verdict.{at_end, verdict_from, verdict_of};
+ghost use Rattle.judging.specs.Verdict.{verdict_of};
 ghost use Rattle.search.specs.Sets.{none};
+ghost use Rattle.judge.specs.Marks.{marks};
+ghost use Rattle.judge.specs.Refused.{number_of};
 ghost use Rattle.judge.specs.Taken.{fresh, taken};
 
-use crate::conditions::refusal_at;
+use crate::refusal::Refusal;
 use table::Answer;
-use table::check::check;
-use table::parts::call_count;
+use table::sound::Table;
 
+mod asked;
 mod conditions;
 pub mod records;
-mod scans;
+mod refusal;
 
 // Which call numbers below 224 are done.
 #[repr(C)]
@@ -27,6 +29,7 @@ pub struct Run {
 }
 
 // The run after a call, with the number that the call is answered.
+// Stays: C gets the two by value (SPECIFICATION, Forms 3).
 #[repr(C)]
 #[derive(Clone, Copy)]
 pub struct Taken {
@@ -36,6 +39,7 @@ pub struct Taken {
 
 impl Run {
     // The start, where no call is done.
+    #[tactic(auto, unfolding(crate::specs::Taken::fresh))]
     pub fn new() -> Run
         ensures { result ≡ fresh }
     {
@@ -46,66 +50,35 @@ impl Run {
     pub fn take(self, table: &[u8], call: usize) -> Taken
         ensures { result ≡ taken table.now self call }
     {
-        let checked = check(table);
-        let unsound = checked.number;
-        if unsound != 0 {
-            return Taken {
-                run: self,
-                number: unsound,
-            };
-        }
-        let done = self.done;
-        let number = refusal_at(table, &done, call);
-        if number != 0 {
-            return Taken {
-                run: self,
-                number: number,
-            };
-        }
-        let mut next = self;
-        next.done[call] = true;
-        Taken {
-            run: next,
+        let mut taken = Taken {
+            run: self,
             number: 0,
-        }
-    }
-}
-
-// The calls of an order in turn on a sound table: the first refusal, 18 if not N were taken, or 0.
-fn in_turn(table: &[u8], order: &[u8]) -> Answer
-    requires { refusal table.now ≡ 0 }
-    ensures { result ≡ verdict_from (shape_of table.now) none order.now 0 }
-{
-    let mut done = [false; 224];
-    let mut place = 0;
-    while place < order.len() {
-        let call = order[place] as usize;
-        let number = refusal_at(table, &done, call);
-        if number != 0 {
-            return Answer {
-                number: number,
-                place: place,
-            };
-        }
-        done[call] = true;
-        place += 1;
-    }
-    ended(table, place)
-}
-
-// The answer once the order has ended, with so many calls taken.
-fn ended(table: &[u8], taken: usize) -> Answer
-    ensures { result ≡ at_end (shape_of table.now) taken }
-{
-    if taken != call_count(table) {
-        return Answer {
-            number: 18,
-            place: taken,
         };
+        if let Err(refusal) = taken.run.put(table, call) {
+            taken.number = refusal.number();
+        }
+        taken
     }
-    Answer {
-        number: 0,
-        place: taken,
+
+    // One call: it is done, or refused with nothing changed.
+    fn put(&mut self, table: &[u8], call: usize) -> Result<(), Refusal>
+        ensures { taken table.now self.old call
+            ≡ record { run = self.new; number = number_of result } }
+    {
+        let table = Table::new(table)?;
+        self.mark(table, call)
+    }
+
+    // The same on a sound table.
+    fn mark(&mut self, table: Table, call: usize) -> Result<(), Refusal>
+        ensures value { number_of result
+            ≡ refusal_at (shape_of table.entry.bytes.now) (marks self.old.done) call }
+        ensures run_after { self.new.done
+            ≡ cond (eqb (number_of result) 0) (set self.old.done call true) self.old.done }
+    {
+        self.allows(table, call)?;
+        self.done[call] = true;
+        Ok(())
     }
 }
 
@@ -116,13 +89,5 @@ pub fn verdict(table: &[u8], order: &[u8]) -> Answer
         ↔ (Sound table.now
         × Passes (shape_of table.now) none order.now) }
 {
-    let checked = check(table);
-    let number = checked.number;
-    if number != 0 {
-        return Answer {
-            number: number,
-            place: 0,
-        };
-    }
-    in_turn(table, order)
+    asked::judged(table, order)
 }

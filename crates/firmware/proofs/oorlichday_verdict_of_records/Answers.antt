@@ -1,4 +1,4 @@
--- The code of what the verdict on the records answers, whose place is small enough.
+-- The place that the verdict on the records answers is small enough.
 use Rattle.judging.proofs.Demand.{verdict_most}
 use Rattle.firmware.proofs.oorlichday_verdict_of_records.Goals as goal
 
