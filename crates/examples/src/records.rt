@@ -4,7 +4,7 @@ ghost use Rattle.table.specs.Packed.{shape_of};
 ghost use Rattle.judging.specs.Verdict.{verdict_of};
 ghost use Rattle.judge.specs.Records.{all_numbered};
 
-use crate::shown::gives;
+use crate::shown::Given;
 use crate::tables::{A, C, G};
 use judge::records::{Record, verdict_of_records};
 use std::io;
@@ -42,23 +42,23 @@ fn verdict_on(table: &[u8], records: [Record; 6]) -> Answer
     verdict_of_records(table, &records)
 }
 
+// What the verdict on a list gives.
+fn judged(rt: &impl Print, name: &str, answer: Answer) -> io::Result<()> {
+    println!(rt; "records on {name} {}", Given::from(answer))
+}
+
 // Lists on A, C and G, of six records each; what stands behind a refusal is not looked at.
 pub fn all(rt: &impl Print) -> io::Result<()> {
     let order = [step(0), get(0), set(1), step(1), get(1), set(0)];
-    gives(rt, b"records on ", b"A: 0 2 5 1 3 4", verdict_on(&A, order))?;
-    gives(rt, b"records on ", b"C: 0 2 5 1", verdict_on(&C, order))?;
+    judged(rt, "A: 0 2 5 1 3 4", verdict_on(&A, order))?;
+    judged(rt, "C: 0 2 5 1", verdict_on(&C, order))?;
     let no_unit = [step(2), get(0), set(1), step(1), get(1), set(0)];
-    gives(rt, b"records on ", b"A: step 2", verdict_on(&A, no_unit))?;
+    judged(rt, "A: step 2", verdict_on(&A, no_unit))?;
     let third = Record { kind: 3, number: 0 };
     let no_kind = [step(0), third, set(1), step(1), get(1), set(0)];
-    gives(
-        rt,
-        b"records on ",
-        b"A: 0, then kind 3",
-        verdict_on(&A, no_kind),
-    )?;
+    judged(rt, "A: 0, then kind 3", verdict_on(&A, no_kind))?;
     let unset = [step(0), step(1), get(0), set(1), get(1), set(0)];
-    gives(rt, b"records on ", b"A: 0 1", verdict_on(&A, unset))?;
+    judged(rt, "A: 0 1", verdict_on(&A, unset))?;
     let unfed = [step(0), step(1), get(1), set(0), get(0), set(1)];
-    gives(rt, b"records on ", b"G: 0 1 3", verdict_on(&G, unfed))
+    judged(rt, "G: 0 1 3", verdict_on(&G, unfed))
 }

@@ -60,11 +60,9 @@ pub fn greatest() -> [u8; 644] {
     table[1] = 96;
     table[2] = 96;
     table[3] = 128;
-    let mut k = 0;
-    while k < 128 {
+    for k in 0..128 {
         table[388 + 2 * k] = (k / 96) as u8;
         table[389 + 2 * k] = (k % 96) as u8;
-        k += 1;
     }
     table
 }

@@ -1,35 +1,27 @@
 // Prints the order of the text table on standard input, or its cycle, or its refusal.
 #![tactic(auto)]
 
-ghost use Rattle.std.specs.Prelude.{◌≡◌, true, length};
-ghost use Rattle.lister.specs.Within.{Within};
+ghost use Rattle.std.specs.Prelude.{◌≡◌, ◌≤◌, true, length, IfOk};
 
 use listing::list;
-use std::io::Read;
+use std::io::{self, Read};
 
 // How many bytes a listing has at most (`listing-most` of the crate `listing`).
 const LISTING_MAX: usize = 8860;
 
-// How many bytes were read to the end of the input, or that it cannot be read.
-#[derive(Clone, Copy)]
-enum Input {
-    Bytes(usize),
-    Failed,
-}
-
-// Reads the input to its end, or until the room is full.
-fn read_input<R: Read>(input: &mut R, room: &mut [u8]) -> Input
-    ensures { Within result (length room.old) }
+// Reads the input to its end, or until the room is full; answers how many bytes.
+fn read_input<R: Read>(input: &mut R, room: &mut [u8]) -> io::Result<usize>
+    ensures { IfOk result (λ n. n ≤ length room.old) }
 {
     let mut n = 0;
     while n < room.len() {
-        match input.read(&mut room[n..]) {
-            Ok(0) => return Input::Bytes(n),
-            Ok(more) => n += more,
-            Err(_) => return Input::Failed,
+        let more = input.read(&mut room[n..])?;
+        if more == 0 {
+            break;
         }
+        n += more;
     }
-    Input::Bytes(n)
+    Ok(n)
 }
 
 // Prints the listing of a text, and answers whether there was room for it: there always is.
@@ -50,15 +42,11 @@ fn print(rt: &impl Print, text: &[u8]) -> bool
 // The room for the text is one byte over the limit, so that more than the limit is seen.
 fn main(rt: HostRuntime) {
     let mut text = [0u8; 24577];
-    let input = read_input(&mut rt.stdin(), &mut text);
-    match input {
-        Input::Bytes(n) => {
-            if !print(&rt, &text[..n]) {
-                let _ = rt.eprintln("lister: no room for the listing");
-            }
-        }
-        Input::Failed => {
-            let _ = rt.eprintln("lister: standard input cannot be read");
-        }
+    let Ok(n) = read_input(&mut rt.stdin(), &mut text) else {
+        let _ = rt.eprintln("lister: standard input cannot be read");
+        return;
+    };
+    if !print(&rt, &text[..n]) {
+        let _ = rt.eprintln("lister: no room for the listing");
     }
 }
