@@ -12,6 +12,8 @@ from pathlib import Path
 ROOT = Path(__file__).resolve().parent.parent
 PAGE = ROOT / "docs/CONTRACTS.md"
 PROMISES = ROOT / "docs/PROMISES.md"
+LIVES, LENT = r"(?:< '[^>]*> )?", r"(?: < '[^>]* >)?"  # the lifetimes of a type that borrows, as an impl names them
+SEEN = r"r\.now|result_map_both \(λ t\. t\.bytes\.now\) \(λ e\. e\) r"  # what is seen of an answer that borrows
 HEADING = """# The contract of each public function
 
 Public is whatever another crate or C can call. Each clause is quoted as the toolchain stored it beside the proved crate (it stores nothing of an archive, `firmware_c` and `desk_c`: these as they stand in the source), with the definitions it cites; the page is written by `tests/contracts.py --write` and held to the proved crates by the gate. `crates/NAME/proofs/Settled.antt` proves of each contract that it asks nothing and permits one answer, with every lent byte; of the few that ask something, that they permit one answer where it holds. [PROMISES.md](PROMISES.md) says each in words, and lists those that ask.
@@ -43,8 +45,10 @@ def public_functions(crate):
     top = public if public.exists() else top
     for file in sorted(top.rglob("*.rt")):
         module, owner = file.relative_to(top).with_suffix("").parts, ()
+        if len(module) == 1 and re.search(rf"^mod {module[0]} ;$", (top / "lib.rt").read_text(encoding="utf-8"), re.M):
+            continue
         for line in file.read_text(encoding="utf-8").splitlines():
-            if opened := re.match(r"impl (\w+)", line):
+            if opened := re.match(rf"impl {LIVES}(\w+)", line):
                 owner = (opened[1],)
             elif line.startswith("}"):
                 owner = ()
@@ -62,7 +66,7 @@ def lacking(crate, path, text):
     elif says and (kinds := re.search(rf"^use Rattle\.{crate}\.proofs\.{base}\.Kinds as ([\w-]+)$", text, re.M)):
         name = kinds[1]
         at = rf"{name}\.ps {name}\.r {says[1]}\.Asked {says[1]}\.Learnt"
-        settled = rf"(Settles {at}|SettlesSeen {at} \(λ κs r\. r\.now\))"
+        settled = rf"(Settles {at}|SettlesSeen {at} \(λ κs r\. ({SEEN})\))"
         if asks(crate, path):
             settled = rf"SettlesWhere {at} {seen(crate, path)}"
     else:
@@ -78,7 +82,7 @@ def stored(crate, path):
     modules = [part for part in path[:-1] if part[0].islower()] or ["lib"]
     owner = next((part for part in path[:-1] if part[0].isupper()), None)
     text = top.joinpath(*modules).with_suffix(".rt").read_text(encoding="utf-8")
-    block = re.compile(rf"^impl {owner or '.*'} {{$.*?^}}$", re.M | re.S)
+    block = re.compile(rf"^impl {LIVES + owner + LENT if owner else '.*'} {{$.*?^}}$", re.M | re.S)
     found = re.search(pattern, block.search(text)[0] if owner else block.sub("", text), re.M | re.S)[0]
     clauses = re.split(r"\n +(?=requires |ensures )", re.sub(r"(\n *{| ;)$", "", found))[1:]
     uses = re.findall(r"^ghost use ([^;]*);", text, re.M)

@@ -1,14 +1,18 @@
 #!/usr/bin/env python3
 """Holds the pages to the tree: links, paths and cited rules lead somewhere, every number has its line, and every
 must-fail edit stands in EDITS.md (which `tests/pages.py --write` writes) and is named in PROMISES.md.
+A page of what was done once may name a file that has stood in the tree at some commit.
 
 A page cites a rule by a link to its section and its number, a source by words: SPECIFICATION, Precedence 3."""
 import re
+import subprocess
 import sys
+from functools import lru_cache
 from pathlib import Path
 
 ROOT = Path(__file__).resolve().parent.parent
 PAGES = [ROOT / "README.md", *sorted((ROOT / "docs").rglob("*.md")), *sorted((ROOT / "examples").glob("*.md"))]
+PAST = [ROOT / "docs/PORT.md", ROOT / "docs/DESIGN-PASS.md", *(ROOT / "docs/changes").glob("*.md")]
 ROOMS = ("crates", "tests", "bench", "include", "demo")
 SPECIFICATION = ROOT / "docs/SPECIFICATION.md"
 NUMBERS = [*range(0, 10), *range(11, 19), *range(20, 35)]
@@ -31,6 +35,14 @@ def is_there(path):
     if path.startswith("target"):
         return True
     return any(any(ROOT.glob(start + path)) for start in ("", "crates/", "crates/*/"))
+
+
+@lru_cache
+def stood():
+    """Every path that some commit has, each with the start that `is_there` allows left out too."""
+    log = subprocess.run(["git", "-C", ROOT, "log", "--format=", "--name-only"], capture_output=True, text=True, check=True)
+    paths = set(log.stdout.split())
+    return paths | {path.partition("/")[2] for path in paths} | {path.split("/", 2)[-1] for path in paths}
 
 
 def anchor(heading):
@@ -71,6 +83,8 @@ def lost(page):
     wrong = []
     for quoted in re.findall(r"`(\w[\w.-]*/[^`\s]*)", read(page)):
         path, _, to = quoted.partition("#")
+        if page in PAST and path in stood():
+            continue
         if re.search(r"\.\w+$|/$", path) and not (is_there(path) and (not to or to in anchors(ROOT / path))):
             wrong.append(quoted)
     return wrong
