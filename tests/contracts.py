@@ -38,22 +38,37 @@ def signature(crate, function):
     return top, rf"\bfn {function} \(.*? ;$"
 
 
+def impl_of_trait(name=r"\w+"):
+    """The line that opens an impl of a trait: what it is, and the name that it is stored under."""
+    return rf"(?:# \[.*\] )?(impl .* for .*) as ({name}) {{$"
+
+
+def files(top):
+    """The modules below a folder: the path, the text, and whether another crate can name it."""
+    for file in sorted(top.rglob("*.rt")):
+        module = file.relative_to(top).with_suffix("").parts
+        own = len(module) == 1 and re.search(rf"^mod {module[0]} ;$", (top / "lib.rt").read_text(encoding="utf-8"), re.M)
+        yield () if module == ("lib",) else module, file.read_text(encoding="utf-8"), not own
+
+
 def public_functions(crate):
-    """The paths of the functions that another crate or C can call."""
+    """The paths of the functions that another crate or C can call, those of a trait's impl by the impl's name."""
     top, _ = signature(crate, "")
     public = top.parents[1] / "interface/lang/src"  # without the modules and functions that are the crate's own
     top = public if public.exists() else top
-    for file in sorted(top.rglob("*.rt")):
-        module, owner = file.relative_to(top).with_suffix("").parts, ()
-        if len(module) == 1 and re.search(rf"^mod {module[0]} ;$", (top / "lib.rt").read_text(encoding="utf-8"), re.M):
-            continue
-        for line in file.read_text(encoding="utf-8").splitlines():
-            if opened := re.match(rf"impl {LIVES}(\w+)", line):
+    hidden = {name for _, text, known in files(top)
+              for pub, name in re.findall(r"^(?:# .*\] )?(pub )?(?:struct|enum|trait) (\w+)", text, re.M) if not (pub and known)}
+    for module, text, known in files(top):
+        owner, pub = (), r"\bpub (?:extern \"C\" )?"
+        for line in text.splitlines() if known else []:
+            if opened := re.match(impl_of_trait(), line):
+                owner, pub = (opened[2],), "^" if hidden.isdisjoint(re.findall(r"\w+", opened[1])) else "(?!)"
+            elif opened := re.match(rf"impl {LIVES}(\w+)", line):
                 owner = (opened[1],)
             elif line.startswith("}"):
-                owner = ()
-            elif named := re.search(r"\bpub (?:extern \"C\" )?fn (\w+)", line):
-                yield (() if module == ("lib",) else module) + owner + (named[1],)
+                owner, pub = (), r"\bpub (?:extern \"C\" )?"
+            elif named := re.search(rf"{pub}fn (\w+)", line):
+                yield module + owner + (named[1],)
 
 
 def lacking(crate, path, text):
@@ -82,9 +97,13 @@ def stored(crate, path):
     modules = [part for part in path[:-1] if part[0].islower()] or ["lib"]
     owner = next((part for part in path[:-1] if part[0].isupper()), None)
     text = top.joinpath(*modules).with_suffix(".rt").read_text(encoding="utf-8")
-    block = re.compile(rf"^impl {LIVES + owner + LENT if owner else '.*'} {{$.*?^}}$", re.M | re.S)
-    found = re.search(pattern, block.search(text)[0] if owner else block.sub("", text), re.M | re.S)[0]
+    opens = rf"impl {LIVES + owner + LENT} {{$|{impl_of_trait(owner)}" if owner else ".*impl .* {$"
+    block = re.compile(rf"^(?:{opens})(?s:.*?)^}}$", re.M)
+    whole = block.search(text)[0] if owner else block.sub("", text)
+    found = re.search(pattern, whole, re.M | re.S)[0]
     clauses = re.split(r"\n +(?=requires |ensures )", re.sub(r"(\n *{| ;)$", "", found))[1:]
+    if given := re.match(impl_of_trait(), whole.partition("\n")[0]):
+        clauses = [given[1], *re.findall(r"^ +(ghost \w+ = {.*?}) ?;$", whole, re.M | re.S), *clauses]
     uses = re.findall(r"^ghost use ([^;]*);", text, re.M)
     return [" ".join(use.split()) for use in uses], [" ".join(clause.split()) for clause in clauses]
 

@@ -12,7 +12,7 @@ from pathlib import Path
 
 ROOT = Path(__file__).resolve().parent.parent
 PAGES = [ROOT / "README.md", *sorted((ROOT / "docs").rglob("*.md")), *sorted((ROOT / "examples").glob("*.md"))]
-PAST = [ROOT / "docs/PORT.md", ROOT / "docs/DESIGN-PASS.md", *(ROOT / "docs/changes").glob("*.md")]
+PAST = [*(ROOT / f"docs/{name}.md" for name in ("PORT", "DESIGN-PASS", "LOOK-BACK")), *(ROOT / "docs/changes").glob("*.md")]
 ROOMS = ("crates", "tests", "bench", "include", "demo")
 SPECIFICATION = ROOT / "docs/SPECIFICATION.md"
 NUMBERS = [*range(0, 10), *range(11, 19), *range(20, 35)]
@@ -37,12 +37,23 @@ def is_there(path):
     return any(any(ROOT.glob(start + path)) for start in ("", "crates/", "crates/*/"))
 
 
+def git(*words):
+    """What git says of the tree; nothing where the tree has no history."""
+    return subprocess.run(["git", "-C", ROOT, *words], capture_output=True, text=True).stdout
+
+
 @lru_cache
 def stood():
-    """Every path that some commit has, each with the start that `is_there` allows left out too."""
-    log = subprocess.run(["git", "-C", ROOT, "log", "--format=", "--name-only"], capture_output=True, text=True, check=True)
-    paths = set(log.stdout.split())
+    """Every path that some commit has, each with the start that `is_there` allows left out too; None where the history is cut off."""
+    if git("rev-parse", "--is-shallow-repository").strip() != "false":
+        return None
+    paths = set(git("log", "--format=", "--name-only").split())
     return paths | {path.partition("/")[2] for path in paths} | {path.split("/", 2)[-1] for path in paths}
+
+
+def is_gone(path):
+    """Did it stand in the tree, and does no longer? Where the history is cut off the page is taken at its word."""
+    return not is_there(path) and (stood() is None or path in stood())
 
 
 def anchor(heading):
@@ -83,7 +94,7 @@ def lost(page):
     wrong = []
     for quoted in re.findall(r"`(\w[\w.-]*/[^`\s]*)", read(page)):
         path, _, to = quoted.partition("#")
-        if page in PAST and path in stood():
+        if page in PAST and not to and is_gone(path):
             continue
         if re.search(r"\.\w+$|/$", path) and not (is_there(path) and (not to or to in anchors(ROOT / path))):
             wrong.append(quoted)

@@ -14,11 +14,6 @@ CONSTANT = re.compile(r"\bconst\s+([A-Z_0-9]+)\s*:\s*usize\s*=\s*([0-9_]+)")
 # An array whose type is written beside it is measured by that type.
 TYPED = re.compile(r"(:\s*\[[^=;]+;[^=\]]+\]\s*=\s*)\[\s*[0-9_]+\s*;[^\]]*\]")
 
-# What fills a field, a lent array or a local of that name is as wide as their types say, where all agree.
-NAMED = re.compile(r"\b(\w+)\s*:\s*(?:&\s*(?:'\w+\s+)?(?:mut\s+)?)?\[\s*([a-z]+[0-9]*)\s*;")
-FIELD = re.compile(r"\b(\w+)(\s*[:=]\s*\[)\s*[0-9_]+\s*;")
-FILLED = re.compile(r"\*(\w+)(\s*=\s*\[)[^;\[\]]*;")
-
 
 def refuse(place, text):
     sys.exit(f"arrays: {place}: {text}")
@@ -45,13 +40,13 @@ def length(text, constants, place):
 
 
 def size(element, count, constants, place):
-    """Bytes: by the element's type, its literal's, or its own parts; 8 for a bare number."""
+    """Bytes: by the element's type, its literal's or its cast's, or its own parts; 8 for a bare number."""
     if element.startswith("["):
         one = size(*parts(element, 0), constants, place)
     elif re.fullmatch(r"[0-9_]+", element):
         one = 8
     else:
-        word = re.fullmatch(r"(?:[0-9_]+)?([a-z]+[0-9]*)", element)
+        word = re.fullmatch(r"(?:[0-9_]+|.* as )?([a-z]+[0-9]*)", element)
         one = SIZES.get(word[1] if word else None)
         if one is None:
             refuse(place, f"how wide is an element of [{element}; {count}]?")
@@ -66,14 +61,8 @@ def main():
             refuse(folder, "no source")
         texts = {file: re.sub(r"//.*", "", file.read_text(encoding="utf-8")) for file in files}
         constants = dict(pair for text in texts.values() for pair in CONSTANT.findall(text))
-        declared = {}
-        for name, element in (pair for text in texts.values() for pair in NAMED.findall(text)):
-            declared.setdefault(name, set()).add(element)
-        known = {name: elements.pop() for name, elements in declared.items() if len(elements) == 1}
         for file, text in texts.items():
             text = TYPED.sub(r"\1_", text)
-            for filled in FIELD, FILLED:
-                text = filled.sub(lambda fill: f"{fill[1]}{fill[2]}0{known[fill[1]]};" if fill[1] in known else fill[0], text)
             for bracket in re.finditer(r"\[", text):
                 array = parts(text, bracket.start())
                 if not array or LENT.search(text[:bracket.start()]):

@@ -43,7 +43,7 @@ use Rattle.bits.specs.Bits.{has, put, drop, empty, Words, without}
 use Rattle.bits.specs.Digits.{bit, bit-put, bit-drop, one_bit, trailing_zero, trailing_one}
 
 -- ---- one word changed
-set_words : (ws : List ℕ) (i v : ℕ) → i < 4 → v < 2 ^ 64 → Words ws → Words (set ws i v)
+pub set_words : (ws : List ℕ) (i v : ℕ) → i < 4 → v < 2 ^ 64 → Words ws → Words (set ws i v)
 set_words ws i v h s w = record {
   long = length-set ws i v ∙ w.long;
   small = λ j hj. elim (ℕ_discrete j i) [

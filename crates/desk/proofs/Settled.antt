@@ -1,6 +1,10 @@
 -- Each public function's contract asks nothing and permits one answer, with every lent byte.
 use mathlib.Core.Path.{ap, sym, refl, ◌∙◌}
 use Rattle.search.specs.Settling.{Settles}
+use Rattle.desk.proofs.ReadingFromTextAnswer.from.Kinds as from-text-answer
+use Rattle.desk.proofs.ReadingFromTextAnswer.from.Reads as from-text-answer-says
+use Rattle.desk.proofs.ReadingFromTableAnswer.from.Kinds as from-table-answer
+use Rattle.desk.proofs.ReadingFromTableAnswer.from.Reads as from-table-answer-says
 use Rattle.desk.proofs.oorlichday_read.Kinds as oorlichday-read
 use Rattle.desk.proofs.oorlichday_read.Reads as oorlichday-read-says
 use Rattle.desk.proofs.oorlichday_list.Kinds as oorlichday-list
@@ -9,6 +13,14 @@ use Rattle.desk.proofs.oorlichday_take.Kinds as oorlichday-take
 use Rattle.desk.proofs.oorlichday_take.Reads as oorlichday-take-says
 use Rattle.desk.proofs.oorlichday_precedes.Kinds as oorlichday-precedes
 use Rattle.desk.proofs.oorlichday_precedes.Reads as oorlichday-precedes-says
+
+pub from-text-answer-settled : Settles from-text-answer.ps from-text-answer.r
+    from-text-answer-says.Asked from-text-answer-says.Learnt
+from-text-answer-settled = ((λ κs a. tt), (λ κs a x y w v p q. (p ∙ sym q, refl)))
+
+pub from-table-answer-settled : Settles from-table-answer.ps from-table-answer.r
+    from-table-answer-says.Asked from-table-answer-says.Learnt
+from-table-answer-settled = ((λ κs a. tt), (λ κs a x y w v p q. (p ∙ sym q, refl)))
 
 pub oorlichday_read_settled : Settles oorlichday-read.ps oorlichday-read.r
     oorlichday-read-says.Asked oorlichday-read-says.Learnt

@@ -24,7 +24,7 @@ pub struct Reading {
 
 // What is answered to a text.
 impl From<text::Answer> for Reading {
-    ghost from_gives = { λ answer reading. reading
+    ghost from_gives = { λ answer given. given
         ≡ record { number = answer.number; place = answer.place } };
 
     fn from(answer: text::Answer) -> Reading {
@@ -37,8 +37,8 @@ impl From<text::Answer> for Reading {
 
 // What is answered to a listing.
 impl From<table::Answer> for Reading {
-    ghost from_gives = { λ listed reading. reading
-        ≡ record { number = listed.number; place = listed.place } };
+    ghost from_gives = { λ wrote given. given
+        ≡ record { number = wrote.number; place = wrote.place } };
 
     fn from(listed: table::Answer) -> Reading {
         Reading {

@@ -10,13 +10,13 @@ use Rattle.std.proofs.Common.{
   false,
   not,
   ◌&&◌,
+  ◌||◌,
   cond,
   List,
-  [],
   ℕ,
   ◌+◌,
   ◌-◌,
-  ◌*◌,
+  ◌/◌,
   ◌<◌,
   ◌≤◌,
   min,
@@ -37,20 +37,22 @@ use Rattle.std.specs.Bool.{beq}
 use Rattle.std.specs.List.{filter, list_any, reduce, zip}
 use Rattle.search.specs.Truth.{lt_true}
 use Rattle.search.specs.Every.{some}
-use Rattle.table.specs.Packed.{units, outputs, inputs, feeds, input_owners, kinds, pairs, shape_of}
+use Rattle.table.specs.Packed.{units, outputs, inputs, input_owners, kinds, pairs, shape_of}
+use Rattle.table.specs.Packed.{pair_input, pair_output}
 use Rattle.table.specs.Sound.{Sound}
-use Rattle.table.specs.Layout.{long_input_owners, long-kinds, long-pairs}
+use Rattle.table.specs.Layout.{long_input_owners, long-kinds, pair_count}
 use Rattle.table.proofs.Checked.{few-calls}
 use Rattle.calls.specs.Number.{set_no}
 use Rattle.calls.specs.Precedence.{has_kind}
 use Rattle.judging.specs.Conditions.{early, unset, unfed}
 use Rattle.judge.specs.Marks.{marks}
-use Rattle.judge.proofs.Scanning.{some-place, pairs_of, length_pairs, pair_at}
+use Rattle.judge.proofs.Scanning.{some-place, some-halves}
 use Rattle.judge.proofs.Lowest.{Input, kind_of, of_kind, bars, Kinds, lowest-is}
 
--- the test of the chain over the feeds
-abbrev pub of_feed : List Bool → ℕ → ℕ → List ℕ → Bool
-of_feed done first output p = eqb (get_or p 1 0) output && not (marks done (first + get_or p 0 0))
+-- the test of one feed
+abbrev pub of_feed : List Bool → ℕ → ℕ → List ℕ → ℕ → Bool
+of_feed done first output ps k =
+    eqb (pair_output ps k) output && not (marks done (first + pair_input ps k))
 
 -- the tests of an input in either order
 turned : (o k m set : Bool) → (o && (k && beq m set)) ≡ ((k && o) && cond set m (not m))
@@ -153,13 +155,12 @@ module _ (t : List ℕ) (sound : Sound t) (done : List Bool) (u y : ℕ) (eu : u
       lowest_amiss-is = lowest-is unit all known ∙ rw (of-kind 0 true, of-kind 1 false)
 
   pub some_unfed-is : (ps : List ℕ) → ps ≡ pairs t → (output : ℕ)
-      → list_any (of_feed done (u + y) output) (pairs_of ps)
+      → some
+      (λ k. of_feed done (u + y) output ps k
+      || of_feed done (u + y) output ps (length ps / 2 / 2 + k))
+      (length ps / 2 - length ps / 2 / 2)
       ≡ unfed (shape_of t) (marks done) output
   unfolding unfed
   some_unfed-is ps e output =
-      some-place (of_feed done (u + y) output) _ (pairs_of ps)
-      [] (feeds t) (length_pairs (feeds t) ps long)
-      (λ k h. rw (pair_at ps k (omega (arith, long)), e, eu, ey))
-    where
-      long : length ps ≡ 2 * feeds t
-      long = ap length e ∙ long-pairs t sound.long
+      some-halves (of_feed done (u + y) output ps) (length ps / 2)
+      ∙ rw (e, pair_count t sound.long, eu, ey)

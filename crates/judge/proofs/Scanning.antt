@@ -1,41 +1,39 @@
--- A chain over the elements of a slice, or over its pairs, answers whether some place passes.
+-- A chain over the elements of a slice, or over numbers, answers whether some place passes.
 use Rattle.std.proofs.Common.{
   ◌≡◌,
   refl,
   sym,
   ap,
   ◌∙◌,
+  inl,
+  inr,
   Bool,
   true,
   false,
   not,
   ◌&&◌,
   ◌||◌,
+  T,
   List,
-  [],
-  ◌∷◌,
-  ◌++◌,
   ℕ,
   zero,
   suc,
   ◌+◌,
-  ◌*◌,
+  ◌-◌,
+  ◌/◌,
   ◌<◌,
   ◌≤◌,
   length,
   get_or,
   take,
   arith,
-  Some,
-  None,
 }
-use Rattle.std.proofs.lemmas.Iterator.{YieldsList}
-use Rattle.std.proofs.lemmas.Iterator.Splits.{YieldsList-from_shown_while}
+use Rattle.std.proofs.Math.Decide.{dec_lt}
 use Rattle.std.proofs.lemmas.List.{take_all}
 use Rattle.std.proofs.lemmas.List.Folds.{list_any_more}
 use Rattle.std.specs.List.{list_any}
-use Rattle.std.specs.Slice.Iter.{chunks_exact_rest, chunks_exact_size, chunks_exact_steps}
-use Rattle.search.specs.Every.{every, some}
+use Rattle.search.specs.Every.{every, some, some-found, found_some}
+use Rattle.search.specs.Truth.{T_or, or_left, or_right, same_test}
 
 -- one more place
 some_more : (q : ℕ → Bool) (n : ℕ) → some q (suc n) ≡ (some q n || q n)
@@ -66,57 +64,27 @@ module _ {X : Type 0} (test : X → Bool) (q : ℕ → Bool) (xs : List X) (d : 
   some-place n h e =
       ap (list_any test) (sym (take_all n xs (omega arith))) ∙ some_front n (omega arith) e
 
--- ---- the pairs of a list, as chunks of two
+-- ---- a chain that looks at two places a turn, one of either half
 
-unfoldable pub pairs_of : List ℕ → List (List ℕ)
-pairs_of [] = []
-pairs_of (a ∷ []) = []
-pairs_of (a ∷ b ∷ l) = (a ∷ b ∷ []) ∷ pairs_of l
-
-pub length_pairs : (n : ℕ) (l : List ℕ) → length l ≡ 2 * n → length (pairs_of l) ≡ n
-unfolding pairs_of
-length_pairs zero [] e = refl
-length_pairs (suc n) [] e = absurd (omega arith)
-length_pairs n (a ∷ []) e = absurd (omega arith)
-length_pairs zero (a ∷ b ∷ l) e = absurd (omega arith)
-length_pairs (suc n) (a ∷ b ∷ l) e = ap suc (length_pairs n l (omega arith))
-
-pub pair_at : (l : List ℕ) (k : ℕ) → 2 * k + 1 < length l
-    → get_or (pairs_of l) k [] ≡ (get_or l (2 * k) 0 ∷ get_or l (2 * k + 1) 0 ∷ [])
-unfolding pairs_of
-pair_at [] k h = absurd (omega arith)
-pair_at (a ∷ []) k h = absurd (omega arith)
-pair_at (a ∷ b ∷ l) zero h = refl
-pair_at (a ∷ b ∷ l) (suc k) h =
-    let e : 2 * suc k ≡ suc (suc (2 * k)) = omega arith in
-    let f : suc (suc (2 * k)) + 1 ≡ suc (suc (2 * k + 1)) = omega arith in
-    pair_at l k (omega arith) ∙ rw (e, f)
-
--- the chunks of two of a slice are its pairs
-pub YieldsList-from_pairs : {s : _} (l : List ℕ) → chunks_exact_rest s ≡ l → chunks_exact_size s ≡ 2
-    → YieldsList chunks_exact_steps (λ x. x.now) s (pairs_of l)
-unfolding pairs_of
-YieldsList-from_pairs {s} l r e =
-    rw (← r) (YieldsList-from_shown_while chunks_exact_steps (λ x. x.now)
-    (λ s. pairs_of (chunks_exact_rest s)) (λ s. chunks_exact_size s ≡ 2) ends goes s e)
+-- the halves hold every place; the middle one of an odd number is in both
+pub some-halves : (q : ℕ → Bool) (n : ℕ)
+    → some (λ k. q k || q (n / 2 + k)) (n - n / 2) ≡ some q n
+some-halves q n = same_test _ _ to from
   where
-    none : (l : List ℕ) → length l < 2 → length (pairs_of l) ≡ 0
-    none [] h = refl
-    none (a ∷ []) h = refl
-    none (a ∷ b ∷ l) h = absurd (omega arith)
+    to : T (some (λ k. q k || q (n / 2 + k)) (n - n / 2)) → T (some q n)
+    to t =
+        let (k, h, p) = some-found _ _ t in
+        elim (T_or (q k) (q (n / 2 + k)) p) [
+          | inl a ↦ found_some q n k (omega arith) a
+          | inr a ↦ found_some q n (n / 2 + k) (omega arith) a
+        ]
 
-    more : (x l : List ℕ) → length x ≡ 2 → pairs_of (x ++ l) ≡ x ∷ pairs_of l
-    more [] l h = absurd (omega arith)
-    more (a ∷ []) l h = absurd (omega arith)
-    more (a ∷ b ∷ []) l h = refl
-    more (a ∷ b ∷ c ∷ x) l h = absurd (omega arith)
-
-    ends : (s t : _) → chunks_exact_size s ≡ 2 → chunks_exact_steps s None t
-        → length (pairs_of (chunks_exact_rest s)) ≡ 0
-    ends s t e (z, h, m) = none (chunks_exact_rest s) (omega (arith, h.0))
-
-    goes : (s x t : _) → chunks_exact_size s ≡ 2 → chunks_exact_steps s (Some x) t
-        → (chunks_exact_size t ≡ 2)
-        × (pairs_of (chunks_exact_rest s) ≡ x.now ∷ pairs_of (chunks_exact_rest t))
-    goes s x t e (z, h, m) =
-        (z ∙ e, ap pairs_of h.0 ∙ more x.now (chunks_exact_rest t) (h.1 ∙ e))
+    from : T (some q n) → T (some (λ k. q k || q (n / 2 + k)) (n - n / 2))
+    from t =
+        let (i, h, p) = some-found q n t in
+        elim (dec_lt i (n / 2)) [
+          | yes l ↦ found_some _ _ i (omega arith) (or_left (q i) _ p)
+          | no l ↦
+              (let e : n / 2 + (i - n / 2) ≡ i = omega arith in
+              found_some _ _ (i - n / 2) (omega arith) (or_right (q (i - n / 2)) _ (rw e p)))
+        ]

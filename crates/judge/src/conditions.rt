@@ -1,6 +1,18 @@
 // The conditions of one call on a sound table: SPECIFICATION, Judging 4.
-ghost use Rattle.std.specs.Prelude.{◌≡◌, ◌<◌, cond, false};
-ghost use Rattle.table.specs.Packed.{inputs, outputs, shape_of};
+ghost use Rattle.std.specs.Prelude.{
+  ◌≡◌,
+  ◌&&◌,
+  ◌+◌,
+  ◌*◌,
+  ◌≤◌,
+  ◌<◌,
+  cond,
+  eqb,
+  false,
+  length,
+  not,
+};
+ghost use Rattle.table.specs.Packed.{inputs, outputs, pair_input, pair_output, shape_of};
 ghost use Rattle.calls.specs.declared.Call.TheVariants.{Step, Get, Set};
 ghost use Rattle.judging.specs.Conditions.{early, unset, unfed, refusal_of, refusal_at};
 ghost use Rattle.judge.specs.Marks.{marks};
@@ -41,13 +53,30 @@ impl Run {
             .min()
     }
 
-    // Is some input that feeds this output not set?
+    // Does pair k feed this output from an input that is not set?
+    fn is_unfed(&self, pairs: &[u8], first: usize, output: u8, k: usize) -> bool
+        requires pair { 2 * k + 1 < length pairs.now }
+        requires first { first ≤ 128 }
+        ensures { result
+            ≡ (eqb (pair_output pairs.now k) output
+            && not (marks self.now.done (first + pair_input pairs.now k))) }
+    {
+        pairs[2 * k + 1] == output && !self.is_done(first + pairs[2 * k] as usize)
+    }
+
+    // Is some input that feeds this output not set? A turn looks at two pairs, one of either half:
+    // the middle one of an odd number is looked at twice.
     fn some_unfed(&self, table: Table, output: usize) -> bool
+        requires { output < outputs table.bytes.now }
         ensures { result ≡ unfed (shape_of table.entry.bytes.now) (marks self.now.done) output }
     {
         let first = table.unit_count() + table.output_count();
-        table.feed_pairs().chunks_exact(2).any(|pair| {
-            pair[1] as usize == output && !self.is_done(first + pair[0] as usize)
+        let pairs = table.feed_pairs();
+        let output = output as u8;
+        let count = pairs.len() / 2;
+        let half = count / 2;
+        (0..count - half).any(|k| {
+            self.is_unfed(pairs, first, output, k) || self.is_unfed(pairs, first, output, half + k)
         })
     }
 

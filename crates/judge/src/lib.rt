@@ -4,6 +4,7 @@
 ghost use Rattle.std.specs.Prelude.{◌≡◌, ◌↔◌, cond, eqb, set, true};
 ghost use Rattle.table.specs.Packed.{shape_of};
 ghost use Rattle.table.specs.Sound.{Sound};
+ghost use Rattle.table.specs.Check.{refusal};
 ghost use Rattle.judging.specs.Conditions.{refusal_at};
 ghost use Rattle.judging.specs.Passes.{Passes};
 ghost use Rattle.judging.specs.Verdict.{verdict_of};
@@ -47,29 +48,35 @@ impl Run {
     }
 
     // One call: 1 to 7 for an unsound table, or 11 to 17, with the run as it was; 0 with the next.
+    #[tactic(auto, unfolding(crate::specs::Taken::taken, crate::specs::Taken::advanced))]
     pub fn take(self, table: &[u8], call: usize) -> Taken
         ensures { result ≡ taken table.now self call }
     {
-        let mut taken = Taken {
-            run: self,
-            number: 0,
-        };
-        if let Err(refusal) = taken.run.put(table, call) {
-            taken.number = refusal.number();
+        match self.bars(table, call) {
+            Ok(()) => {
+                let mut run = self;
+                run.done[call] = true;
+                Taken { run, number: 0 }
+            }
+            Err(refusal) => Taken {
+                run: self,
+                number: refusal.number(),
+            },
         }
-        taken
     }
 
-    // One call: it is done, or refused with nothing changed.
-    fn put(&mut self, table: &[u8], call: usize) -> Result<(), Refusal>
-        ensures { taken table.now self.old call
-            ≡ record { run = self.new; number = number_of result } }
+    // Why a call is refused, of any table. A frame of its own, so that `take` copies the run once.
+    #[inline(never)]
+    fn bars(&self, table: &[u8], call: usize) -> Result<(), Refusal>
+        ensures { number_of result ≡ cond (eqb (refusal table.now) 0)
+            (refusal_at (shape_of table.now) (marks self.now.done) call)
+            (refusal table.now) }
     {
         let table = Table::new(table)?;
-        self.mark(table, call)
+        self.allows(table, call)
     }
 
-    // The same on a sound table.
+    // One call on a sound table: it is done, or refused with nothing changed.
     fn mark(&mut self, table: Table, call: usize) -> Result<(), Refusal>
         ensures value { number_of result
             ≡ refusal_at (shape_of table.entry.bytes.now) (marks self.old.done) call }

@@ -37,7 +37,7 @@ impl Queue {
         ensures ready { result.ready.words ≡ empty }
     {
         Queue {
-            waiting: [0; 224],
+            waiting: [0u8; 224],
             ready: Bits::new(),
         }
     }

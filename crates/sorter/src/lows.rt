@@ -37,9 +37,9 @@ pub fn low_steps(table: Table, marks: &Bits, lows: &mut [u8; 32])
 {
     let owners = table.input_owners();
     let kinds = table.input_kinds();
-    let count = table.input_count() as u8;
-    *lows = [count; 32];
-    for input in (0..count).rev() {
+    let inputs = table.input_count();
+    *lows = [inputs as u8; 32];
+    for input in (0..inputs as u8).rev() {
         let x = input as usize;
         if kinds[x] == 1 && !marks.has(set_of(table, input)) {
             lows[owners[x] as usize] = input;

@@ -9,9 +9,9 @@ ghost use Rattle.sorter.specs.NoOrder.{refused, answered};
 ghost use Rattle.sorter.specs.Ordering.{shown_of, ordering};
 ghost use Rattle.sorter.specs.OrderOrCycle.{OrderOrCycle};
 
-use crate::lows::{Lows, low_gets, low_steps};
+use crate::lows::Lows;
 use crate::show::write_turned;
-use crate::walk::{lowest_left, mark, walk_back};
+use crate::walk::{left_over, walk_back};
 use placing::Placed;
 use placing::place::place;
 use placing::queue::Queue;
@@ -66,12 +66,9 @@ fn show_cycle(table: Table, placed: Placed, bytes: &mut [u8; 224], out: &mut [u8
     ensures value { result ≡ length (shown_of table.entry.bytes.now) }
     ensures out_after { out.new ≡ fronted (shown_of table.entry.bytes.now) out.old }
 {
-    let marks = mark(bytes, placed);
-    let first = lowest_left(&marks, table.call_count()).unwrap();
-    let mut steps = [0; 32];
-    let mut gets = [0; 96];
-    low_steps(table, &marks, &mut steps);
-    low_gets(table, &marks, &mut gets);
+    let mut steps = [0u8; 32];
+    let mut gets = [0u8; 96];
+    let first = left_over(table, placed, bytes, &mut steps, &mut gets);
     let lows = Lows {
         table,
         steps: &steps,

@@ -1,5 +1,5 @@
 // The backward walk through the calls that remain.
-ghost use Rattle.std.specs.Prelude.{◌≡◌, not, ℕ, ◌<◌, T, MatchOption};
+ghost use Rattle.std.specs.Prelude.{◌≡◌, not, ℕ, ◌<◌, T, MatchOption, length};
 ghost use Rattle.search.specs.Least.{least_from};
 ghost use Rattle.table.specs.Packed.{shape_of};
 ghost use Rattle.calls.specs.Precedence.{precedes};
@@ -7,25 +7,27 @@ ghost use Rattle.orders.specs.Walk.{among, lowest_left, met};
 ghost use Rattle.bits.specs.Bits.{has};
 ghost use Rattle.placing.specs.Placing.{call_count, placed_of};
 ghost use Rattle.placing.specs.Thread.{chain};
+ghost use Rattle.sorter.specs.Lows.{LowSteps, LowGets};
 
-use crate::lows::Lows;
+use crate::lows::{Lows, low_gets, low_steps};
 use crate::show::place_of;
 use bits::Bits;
 use placing::Placed;
+use table::sound::Table;
 
-// The set of the placed calls, found the last first: before each stands its byte's call.
+// Marks the placed calls and no others, the last first: before each stands its byte's call.
 // Stays: one loop for this and `write_back` needs an iterator with its contract, longer than both.
-pub fn mark(bytes: &[u8; 224], placed: Placed) -> Bits
+// Stays: answered by value the marks lie in the frame twice.
+pub fn mark(bytes: &[u8; 224], placed: Placed, marks: &mut Bits)
     requires { (c : ℕ) → T (among (chain bytes.now placed.count placed.last) c) → c < 224 }
-    ensures { has result.words ≡ among (chain bytes.now placed.count placed.last) }
+    ensures { has marks.new.words ≡ among (chain bytes.now placed.count placed.last) }
 {
-    let mut marks = Bits::new();
+    *marks = Bits::new();
     let mut call = placed.last;
     for _ in 0..placed.count {
         marks.put(call as usize);
         call = bytes[call as usize];
     }
-    marks
 }
 
 // The lowest of the first `count` calls that has no mark.
@@ -35,6 +37,33 @@ pub fn lowest_left(marks: &Bits, count: usize) -> Option<usize>
         × (left ≡ least_from (λ c. not (has marks.now.words c)) count 0)) }
 {
     (0..count).find(|call| !marks.has(*call))
+}
+
+// Marks what was placed, notes what keeps each step and get waiting; gives the lowest call left.
+// The marks are gone when it returns: their words then hold what the walk has seen.
+pub fn left_over(
+    table: Table,
+    placed: Placed,
+    bytes: &[u8; 224],
+    steps: &mut [u8; 32],
+    gets: &mut [u8; 96],
+) -> usize
+    requires early { length (placed_of table.bytes.now) < call_count table.bytes.now }
+    requires thread { chain bytes.now placed.count placed.last ≡ placed_of table.bytes.now }
+    ensures value { result ≡ lowest_left (call_count table.entry.bytes.now)
+        (precedes (shape_of table.entry.bytes.now))
+        (among (placed_of table.entry.bytes.now)) }
+    ensures low_steps { LowSteps table.entry.bytes.now (among (placed_of table.entry.bytes.now))
+        steps.new }
+    ensures low_gets { LowGets table.entry.bytes.now (among (placed_of table.entry.bytes.now))
+        gets.new }
+{
+    let mut marks = Bits::new();
+    mark(bytes, placed, &mut marks);
+    let first = lowest_left(&marks, table.call_count()).unwrap();
+    low_steps(table, &marks, steps);
+    low_gets(table, &marks, gets);
+    first
 }
 
 // Walks back to a call where it has been; gives the calls from there on, in precedence order.

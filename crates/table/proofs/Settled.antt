@@ -31,6 +31,8 @@ use Rattle.table.proofs.parts.feed_pairs.Reads as feed-pairs-says
 use Rattle.table.proofs.Faults.{one_result}
 use Rattle.table.proofs.Fault.number.Kinds as fault-number
 use Rattle.table.proofs.Fault.number.Reads as fault-number-says
+use Rattle.table.proofs.AnswerFromFault.from.Kinds as answer-from-fault
+use Rattle.table.proofs.AnswerFromFault.from.Reads as answer-from-fault-says
 use Rattle.table.proofs.sound.Table.new.Kinds as table-new
 use Rattle.table.proofs.sound.Table.new.Reads as table-new-says
 use Rattle.table.proofs.sound.Table.unit_count.Kinds as table-unit-count
@@ -107,6 +109,10 @@ feed-pairs-settled = ((λ κs a. tt), (λ κs a x y w v p q. (p ∙ sym q, refl)
 pub fault-number-settled : Settles fault-number.ps fault-number.r fault-number-says.Asked
     fault-number-says.Learnt
 fault-number-settled = ((λ κs a. tt), (λ κs a x y w v p q. (p ∙ sym q, refl)))
+
+pub answer-from-fault-settled : Settles answer-from-fault.ps answer-from-fault.r
+    answer-from-fault-says.Asked answer-from-fault-says.Learnt
+answer-from-fault-settled = ((λ κs a. tt), (λ κs a x y w v p q. (p ∙ sym q, refl)))
 
 pub table-unit-count-settled : Settles table-unit-count.ps table-unit-count.r
     table-unit-count-says.Asked table-unit-count-says.Learnt

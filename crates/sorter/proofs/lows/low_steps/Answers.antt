@@ -14,7 +14,7 @@ use Rattle.sorter.proofs.lows.low_steps.Goals.{
 pub loop-input-init : goal.loop-input-init
 loop-input-init c =
     steps_start c.args.table.bytes.now c.args.table.sound (has c.args.marks.now.words) _
-    c.input_count-count.ensures.value
+    c.input_count-inputs.ensures.value
 
 pub bounds-kinds-x : goal.bounds-kinds-x
 bounds-kinds-x c =

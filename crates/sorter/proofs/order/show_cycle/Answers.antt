@@ -1,27 +1,7 @@
--- The walk begins at the lowest call left (`begins`); what it met, turned, is what is shown.
-use Rattle.std.proofs.Common.{ap, ◌∙◌, arith}
-use Rattle.std.proofs.lemmas.Option.{MatchOption-at_some}
-use Rattle.table.proofs.Checked.{few-calls}
-use Rattle.orders.specs.Walk.{among}
-use Rattle.sorter.proofs.Showing.{placed_below, one_left, begins, met_is, met_few, shown_turned}
+-- What the walk met, turned, is what is shown (`shown_turned`).
+use Rattle.std.proofs.Common.{arith}
+use Rattle.sorter.proofs.Showing.{met_is, met_few, shown_turned}
 use Rattle.sorter.proofs.order.show_cycle.Goals as goal
-
-pub mark-marks-requires : goal.mark-marks-requires
-mark-marks-requires c =
-    placed_below c.args.table.bytes.now _ c.requires.thread
-    (few-calls c.args.table.bytes.now c.args.table.sound)
-
-pub unwrap-first-requires : goal.unwrap-first-requires
-unwrap-first-requires c =
-    let marks = c.mark-marks.ensures ∙ ap among c.requires.thread in
-    one_left c.args.table.bytes.now c.requires.early _ _ _ marks c.call_count.ensures.value
-    c.lowest_left.ensures
-
-pub walk_back-cycle-requires : goal.walk_back-cycle-requires
-walk_back-cycle-requires c =
-    let marks = c.mark-marks.ensures ∙ ap among c.requires.thread in
-    let left = MatchOption-at_some _ _ _ c.unwrap-first.ensures c.lowest_left.ensures in
-    begins c.args.table.bytes.now _ _ _ marks c.call_count.ensures.value left.1
 
 pub write_turned-requires : goal.write_turned-requires
 write_turned-requires c =

@@ -7,7 +7,7 @@ use Rattle.sorter.proofs.walk.mark.Goals as goal
 pub loop-init : goal.loop-init
 loop-init c =
     marking_starts c.args.bytes.now c.args.placed.count c.args.placed.last _ _ (omega arith)
-    c.new-marks.ensures
+    c.new.ensures
 
 pub bounds-bytes-call : goal.bounds-bytes-call
 bounds-bytes-call c =
