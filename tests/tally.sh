@@ -1,6 +1,7 @@
 # Adds up what parts of a run report: sourced. A part's last 'N passed, M failed' is its count.
 
 passed=0 failed=0
+amiss=  # what the parts that failed said last
 counted='.*\b([0-9]+) passed[,;] ([0-9]+) failed.*'
 
 # part NAME COMMAND...: runs it and adds its count; to end badly or to report nothing is a failure.
@@ -14,7 +15,6 @@ part() {
     status=${PIPESTATUS[0]}
     set -e
     read -r good bad < <(sed -nE "s/$counted/\\1 \\2/p" "$log" | tail -n 1) || true
-    rm -f "$log"
     if [ -z "${good:-}" ]; then
         echo "$name: reported no count (status $status)"
         good=0 bad=1
@@ -22,6 +22,8 @@ part() {
         echo "$name: ended with status $status"
         bad=1
     fi
+    [ "$bad" -eq 0 ] || amiss+="$(echo "failed: $name" && tail -n 12 "$log" | sed 's/^/  /')"$'\n'
+    rm -f "$log"
     passed=$((passed + good)) failed=$((failed + bad))
 }
 
@@ -29,8 +31,9 @@ part() {
 beside() {
     lane=$(mktemp -d)
     (
-        passed=0 failed=0
+        passed=0 failed=0 amiss=
         "$@"
+        printf %s "$amiss" >"$lane/amiss"
         echo "$passed $failed" >"$lane/count"
     ) </dev/null >"$lane/said" 2>&1 &
     lane_process=$!
@@ -41,13 +44,19 @@ joined() {
     local good=0 bad=1
     wait "$lane_process" || true
     cat "$lane/said"
-    if [ -s "$lane/count" ]; then read -r good bad <"$lane/count"; else echo "the parts beside broke off"; fi
+    if [ -s "$lane/count" ]; then
+        read -r good bad <"$lane/count"
+        [ ! -s "$lane/amiss" ] || amiss+="$(cat "$lane/amiss")"$'\n'
+    else
+        echo "the parts beside broke off"
+    fi
     rm -rf "$lane"
     passed=$((passed + good)) failed=$((failed + bad))
 }
 
-# The last line, and the status that goes with it.
+# What failed once more, the last line, and the status that goes with it.
 finish() {
+    printf %s "$amiss"
     echo "$passed passed, $failed failed"
     [ "$failed" -eq 0 ] && [ "$passed" -gt 0 ]
 }
