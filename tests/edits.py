@@ -20,6 +20,7 @@ BY_SHAPE = "a trial run of this declaration was admitted"  # noted where only an
 FOLLOWS = re.compile(r"\d+ declarations? that depends? on |was not admitted")  # a consequence of another error
 OTHERWISE = re.compile(r"^case=case run=(fault\b|.* output=differs\b)", re.M)  # it wrote something else, or stopped
 PROGRAMS = {"examples": 1, "lister": 2}  # how many words a reason has
+LONG = "900"  # a run takes under a minute where it has a core of its own; it is not held to a time
 
 
 def edited(edit, folder):
@@ -60,7 +61,7 @@ def writes_otherwise(edit, program, text=None):
         cases.mkdir()
         (cases / "case").write_bytes((STORED / f"{text}.in").read_bytes() if text else b"")
         shutil.copy(STORED / f"{text}.out" if text else crate / "stdout", cases / "case.stdout")
-        otherwise, told = said(["rt", "try", "--cases", str(cases)], crate)
+        otherwise, told = said(["rt", "try", "--seconds", LONG, "--cases", str(cases)], crate)
     return otherwise and bool(OTHERWISE.search(told))
 
 

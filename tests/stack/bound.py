@@ -25,7 +25,7 @@ def read(lines):
         if match := FUNCTION.match(line):
             body = functions.setdefault(match[1], [])
         elif (match := RELOCATION.match(line)) and body:
-            body[-1][3] = re.sub(r"^\.text\.", "", match[1])
+            body[-1][3] = re.sub(r"^\.text\.(unlikely\.)?", "", match[1])
         elif (match := INSTRUCTION.match(line)) and body is not None:
             word, operands = match[2], match[3]
             while word in PREFIXES and operands:

@@ -34,6 +34,15 @@ impl Run {
         call < 224 && self.done[call]
     }
 
+    // Is this call not done? Few feeds ask: kept apart, so that the loop over all runs straight.
+    #[cold]
+    #[inline(never)]
+    fn is_waiting(&self, call: usize) -> bool
+        ensures { result ≡ not (marks self.now.done call) }
+    {
+        !self.is_done(call)
+    }
+
     // The lowest kind of the unit's inputs that bar its step: delayed and set, or reactive and not.
     fn lowest_amiss(&self, table: Table, unit: usize) -> Option<u8>
         ensures { result
@@ -61,7 +70,7 @@ impl Run {
             ≡ (eqb (pair_output pairs.now k) output
             && not (marks self.now.done (first + pair_input pairs.now k))) }
     {
-        pairs[2 * k + 1] == output && !self.is_done(first + pairs[2 * k] as usize)
+        pairs[2 * k + 1] == output && self.is_waiting(first + pairs[2 * k] as usize)
     }
 
     // Is some input that feeds this output not set? A turn looks at two pairs, one of either half:

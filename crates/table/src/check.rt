@@ -1,5 +1,5 @@
 // The check of a packed table: SPECIFICATION, Packed table 6.
-ghost use Rattle.std.specs.Prelude.{◌≡◌, ◌+◌, ◌*◌, ◌/◌, ◌<◌, length};
+ghost use Rattle.std.specs.Prelude.{◌≡◌, ◌||◌, ◌+◌, ◌*◌, ◌/◌, ◌<◌, length};
 ghost use Rattle.table.specs.Packed.{asked};
 ghost use Rattle.table.specs.Check.{
   counts_in,
@@ -47,13 +47,33 @@ fn feed_known(outs: &[u8], ins: &[u8], pairs: &[u8], k: usize) -> bool
     input < ins.len() && output < outs.len() && ins[input] == outs[output]
 }
 
+// The two bytes of a pair as one number.
+fn word(input: u8, output: u8) -> u16
+    ensures { result ≡ input + 256 * output }
+{
+    input as u16 + 256 * output as u16
+}
+
 // Is pair j this one?
 #[tactic(auto, unfolding(crate::specs::Check::is_pair))]
 fn is_pair(pairs: &[u8], j: usize, input: u8, output: u8) -> bool
     requires { 2 * j + 1 < length pairs.now }
     ensures { result ≡ is_pair pairs.now j input output }
 {
-    pairs[2 * j] == input && pairs[2 * j + 1] == output
+    word(pairs[2 * j], pairs[2 * j + 1]) == word(input, output)
+}
+
+// Is one of the four pairs from pair j on this one? All four are looked at, with one branch.
+fn is_of_four(pairs: &[u8], j: usize, input: u8, output: u8) -> bool
+    requires { 2 * j + 7 < length pairs.now }
+    ensures { result
+        ≡ (is_pair pairs.now j input output || (is_pair pairs.now (j + 1) input output
+        || (is_pair pairs.now (j + 2) input output || is_pair pairs.now (j + 3) input output))) }
+{
+    is_pair(pairs, j, input, output)
+        | is_pair(pairs, j + 1, input, output)
+        | is_pair(pairs, j + 2, input, output)
+        | is_pair(pairs, j + 3, input, output)
 }
 
 // Was pair k given before?
@@ -63,7 +83,8 @@ fn feed_again(pairs: &[u8], k: usize) -> bool
 {
     let input = pairs[2 * k];
     let output = pairs[2 * k + 1];
-    (0..k).any(|j| is_pair(pairs, j, input, output))
+    (0..k / 4).any(|j| is_of_four(pairs, 4 * j, input, output))
+        || (0..k % 4).any(|j| is_pair(pairs, k / 4 * 4 + j, input, output))
 }
 
 // The feeds, pair by pair.
