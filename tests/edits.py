@@ -20,7 +20,7 @@ BY_SHAPE = "a trial run of this declaration was admitted"  # noted where only an
 FOLLOWS = re.compile(r"\d+ declarations? that depends? on |was not admitted")  # a consequence of another error
 OTHERWISE = re.compile(r"^case=case run=(fault\b|.* output=differs\b)", re.M)  # it wrote something else, or stopped
 PROGRAMS = {"examples": 1, "lister": 2}  # how many words a reason has
-LONG = "900"  # a run takes under a minute where it has a core of its own; it is not held to a time
+LONG = "900"  # seconds that a run may take: under a minute where it has a core of its own
 
 
 def edited(edit, folder):

@@ -4,6 +4,11 @@ passed=0 failed=0
 amiss=  # what the parts that failed said last
 counted='.*\b([0-9]+) passed[,;] ([0-9]+) failed.*'
 
+# told LOG: the lines of a log that speak of a failure, at most twelve, and its last twelve.
+told() {
+    { grep -E -m 12 'not refused|NOT REFUSED|BAD EDIT|FAILED|panicked|error: ' "$1" || true; tail -n 12 "$1"; } | sed 's/^/  /'
+}
+
 # part NAME COMMAND...: runs it and adds its count; to end badly or to report nothing is a failure.
 part() {
     local name=$1 log good bad status
@@ -22,7 +27,7 @@ part() {
         echo "$name: ended with status $status"
         bad=1
     fi
-    [ "$bad" -eq 0 ] || amiss+="$(echo "failed: $name" && tail -n 12 "$log" | sed 's/^/  /')"$'\n'
+    [ "$bad" -eq 0 ] || amiss+="failed: $name (status $status)"$'\n'"$(told "$log")"$'\n'
     rm -f "$log"
     passed=$((passed + good)) failed=$((failed + bad))
 }
@@ -49,6 +54,7 @@ joined() {
         [ ! -s "$lane/amiss" ] || amiss+="$(cat "$lane/amiss")"$'\n'
     else
         echo "the parts beside broke off"
+        amiss+="failed: the parts beside broke off"$'\n'
     fi
     rm -rf "$lane"
     passed=$((passed + good)) failed=$((failed + bad))

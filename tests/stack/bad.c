@@ -4,9 +4,10 @@
 extern int outside(int);
 int (*volatile other)(int);
 
-/* A frame of 64 bytes, a push and two return addresses. */
+/* A frame of 64 bytes, a push and two return addresses; the callee in a section of its own, as a cold one is. */
 __asm__(".text\n.globl oorlichday_fine\noorlichday_fine:\n\tpush %rbx\n\tsub $64,%rsp\n"
-        "\tcall leaf\n\tadd $64,%rsp\n\tpop %rbx\n\tret\nleaf:\n\tret\n");
+        "\tcall leaf\n\tadd $64,%rsp\n\tpop %rbx\n\tret\n"
+        ".section .text.unlikely.leaf,\"ax\",@progbits\nleaf:\n\tret\n.text\n");
 
 __attribute__((noinline)) int oorlichday_recursion(int n)
 {
